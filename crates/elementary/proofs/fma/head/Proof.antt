@@ -1,0 +1,14 @@
+use mathlib.Core.Path.{refl}
+use Rattle.elementary.specs.Fma.{headOf}
+use Rattle.elementary.proofs.fma.head.Statement.{statement}
+use Rattle.elementary.proofs.fma.head.Tie as tie
+use Rattle.elementary.proofs.fma.head.Reads as reads
+use Rattle.elementary.proofs.fma.head.Lts as lts
+
+-- src/fma.rt:13:1
+returns : tie.Need-returns
+unfolding headOf
+returns c = refl
+
+pub head-spec : {M : Type 1} → statement M
+head-spec = tie.close (tie.spec returns)

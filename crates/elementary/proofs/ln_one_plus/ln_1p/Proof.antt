@@ -1,0 +1,25 @@
+use Rattle.elementary.specs.LnOnePlus.{lnOnePlusOf}
+use borrow.Author.Needs.{needs}
+use Rattle.elementary.proofs.ln_one_plus.ln_1p.Statement.{statement}
+use Rattle.elementary.proofs.ln_one_plus.ln_1p.Tie as tie
+use Rattle.elementary.proofs.ln_one_plus.ln_1p.Reads as reads
+use Rattle.elementary.proofs.ln_one_plus.ln_1p.Lts as lts
+use Rattle.elementary.proofs.ln_one_plus.number.Reads as number-reads
+
+number-requires : tie.Need-number-requires
+number-requires c κs = search needs
+
+returns : tie.Need-returns
+unfolding lnOnePlusOf
+returns c = rw (← c .before .before .number .ensures, c .before .if1 .taken, c .if2 .taken)
+
+returns-2 : tie.Need-returns-2
+unfolding lnOnePlusOf
+returns-2 c = rw (← c .before .before .number .ensures, c .before .if1 .taken, c .if2 .left)
+
+returns-3 : tie.Need-returns-3
+unfolding lnOnePlusOf
+returns-3 c = rw (← c .before .number .ensures, c .if1 .left)
+
+pub ln-1p-spec : {M : Type 1} → statement M
+ln-1p-spec = tie.close (tie.spec number-requires returns returns-2 returns-3)

@@ -1,0 +1,51 @@
+-- The definitions at their corners, by computation. Assumes nothing.
+use mathlib.Core.Bool.{Bool, true, not, _&&_}
+use mathlib.Core.List.{List, [], _∷_}
+use Prim.Native.Nat.{_-_, _^_}
+use lib.Dec.{T, eqb}
+use lib.Ieee.{Float, nan, binary64, neg, div, lt, isNan, ofBits, toBits}
+use lib.Ieee.Scale.{finite}
+use Rattle.float.specs.Ops.{bits, nought, one, infinite}
+use Rattle.float.specs.Methods.{absOf, maxOf, floorOf}
+
+-- the same value: NaN is NaN, and -0.0 is not 0.0
+abbrev same : Float → Float → Bool
+same x y = eqb (toBits binary64 x) (toBits binary64 y)
+
+-- each of them is true
+abbrev all : List Bool → Bool
+all [] = true
+all (b ∷ bs) = b && all bs
+
+-- of abs, max, floor_to_u64 and is_finite, in turn
+abbrev examples : List Bool
+examples =
+    same (absOf (neg nought)) nought
+    ∷ same (absOf nan) nan
+    ∷ same (absOf (neg infinite)) infinite
+    ∷ same (absOf (neg one)) one
+    ∷ same (maxOf nan one) one
+    ∷ same (maxOf one nan) one
+    ∷ same (maxOf nan nan) nan
+    ∷ same (maxOf one nought) one
+    ∷ same (maxOf nought one) one
+    ∷ same (maxOf nought (neg nought)) nought
+    ∷ same (maxOf (neg nought) nought) (neg nought)
+    ∷ eqb (floorOf (bits 0x4007_fdf3_b645_a1cb)) 2  -- 2.999
+    ∷ eqb (floorOf (bits 0xbfe0_0000_0000_0000)) 0  -- -0.5
+    ∷ eqb (floorOf nan) 0
+    ∷ eqb (floorOf infinite) (2 ^ 64 - 1)
+    ∷ eqb (floorOf (neg infinite)) 0
+    ∷ eqb (floorOf (bits 0x43f0_0000_0000_0000)) (2 ^ 64 - 1)  -- 2 ^ 64
+    ∷ eqb (floorOf (bits 0x43ef_ffff_ffff_ffff)) 18446744073709549568  -- the largest below it
+    ∷ not (finite nan)
+    ∷ not (finite infinite)
+    ∷ not (finite (neg infinite))
+    ∷ finite nought
+    ∷ finite (neg one)
+    ∷ []
+
+-- all of them hold
+pub corners : T (all examples)
+unfolding neg div lt isNan ofBits toBits absOf maxOf floorOf
+corners = tt

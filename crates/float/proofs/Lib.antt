@@ -1,0 +1,5 @@
+pub mod Order
+pub mod Patterns
+pub mod Finite
+pub mod Floor
+pub mod Examples

@@ -1,0 +1,190 @@
+-- The order of all floats, NaN and the infinities included, as a program's tests say it; and which sums and products are no NaN. Assumes nothing.
+use mathlib.Core.Path.{_≡_, refl, sym, ap, _∙_}
+use mathlib.Core.Bool.{Bool, true, false, not, _&&_, _||_, Bool·beq, Bool·not-not, cond, true≢false, false≢true}
+use mathlib.Core.Logic.{_⊎_, inl, inr}
+use Prim.Native.Nat.{ℕ, zero, suc, _+_, _-_, _*_, _^_, _<_}
+use native.Mathlib.Nat.{le-of-eq, le-of-lt, lt-of-lt-of-le, lt-of-le-of-lt, mul-right-comm, mul-le-mul-right, mul-lt-mul-of-pos-right, lt-of-mul-lt-mul-right, mul-pos, zero-mul}
+use native.Mathlib.Omega.{arith}
+use lib.Dec.{T, ltb, eqb·suc-zero}
+use lib.Ieee.{Float, nan, inf, fin, Format, prec, emax, low, binary64, unlike, up, down, odd, units, round, sum, add, mul, below, lt, eq, le, ne, isNan, ofBits}
+use lib.Ieee.Fits.{down-pos, round-is}
+use lib.Ieee.Positive.{first-pos}
+use lib.Ieee.Scale.{finite}
+use borrow.Author.Tests.{ltb-true, lt-ltb, le-ltb, eq-eqb}
+use Rattle.float.specs.Ops.{_⊕_, _⊗_, nought}
+
+-- a test that cannot have passed
+no : {A : Type 0} → false ≡ true → A
+no h = absurd (false≢true h)
+
+-- ---- a value and itself
+beq-self : (s : Bool) → Bool·beq s s ≡ true
+beq-self true = refl
+beq-self false = refl
+
+-- all but NaN are equal to themselves
+pub eq-self : (x : Float) → eq x x ≡ not (isNan x)
+unfolding eq isNan
+eq-self nan = refl
+eq-self (inf s) = beq-self s
+eq-self (fin s m e) = rw (eq-eqb (m * up e * down e) (m * up e * down e) refl, beq-self)
+
+-- NaN alone differs from itself
+pub ne-self : (x : Float) → ne x x ≡ isNan x
+unfolding ne
+ne-self x = rw (eq-self x) (Bool·not-not (isNan x))
+
+-- the same, as the value that it tells
+pub nan-alone : (x : Float) → ne x x ≡ true → x ≡ nan
+unfolding isNan
+nan-alone nan h = refl
+nan-alone (inf s) h = no (sym (ne-self (inf s)) ∙ h)
+nan-alone (fin s m e) h = no (sym (ne-self (fin s m e)) ∙ h)
+
+-- ---- below
+-- nothing is below -infinity, and nothing above +infinity
+none-below : (x : Float) → lt x (inf true) ≡ false
+unfolding lt
+none-below nan = refl
+none-below (inf true) = refl
+none-below (inf false) = refl
+none-below (fin s m e) = refl
+
+none-above : (x : Float) → lt (inf false) x ≡ false
+unfolding lt
+none-above nan = refl
+none-above (inf s) = refl
+none-above (fin s m e) = refl
+
+-- ±a < ±b, turned round
+below-asym : (s : Bool) (a : ℕ) (t : Bool) (b : ℕ) → below s a t b ≡ true → below t b s a ≡ false
+below-asym false a false b h = le-ltb b a (le-of-lt (ltb-true a b h))
+below-asym false a true b h = no h
+below-asym true a false b h = refl
+below-asym true a true b h = le-ltb a b (le-of-lt (ltb-true b a h))
+
+-- of two values one at most is below the other
+pub lt-asym : (x y : Float) → lt x y ≡ true → lt y x ≡ false
+unfolding lt
+lt-asym x nan h = refl
+lt-asym x (inf true) h = no (sym (none-below x) ∙ h)
+lt-asym x (inf false) h = none-above x
+lt-asym nan (fin t n d) h = refl
+lt-asym (inf s) (fin t n d) h = ap not h
+lt-asym (fin s m e) (fin t n d) h = below-asym s (m * up e * down d) t (n * up d * down e) h
+
+not-both : (b : Bool) → (b ≡ true → b ≡ false) → b ≡ false
+not-both true f = f refl
+not-both false f = refl
+
+-- nothing is below itself
+pub lt-irrefl : (x : Float) → lt x x ≡ false
+lt-irrefl x = not-both (lt x x) (lt-asym x x)
+
+-- a / p < b / q < c / r
+strict : (a p b q c r : ℕ) → 0 < p → a * q < b * p → b * r < c * q → a * r < c * p
+strict a p b q c r P h k =
+    lt-of-mul-lt-mul-right q
+    (lt-of-le-of-lt (le-of-eq (mul-right-comm a r q))
+    (lt-of-le-of-lt (mul-le-mul-right r (le-of-lt h))
+    (lt-of-le-of-lt (le-of-eq (mul-right-comm b p r))
+    (lt-of-lt-of-le (mul-lt-mul-of-pos-right k P) (le-of-eq (mul-right-comm c q p))))))
+
+-- a product above something has a first factor above 0
+some : (a b c : ℕ) → a < b * c → 0 < b
+some a b c h = first-pos b c (omega arith)
+
+-- ±a / p < ±b / q < ±c / r, each over the other's denominator
+module _ (a p b q c r : ℕ) (P : 0 < p) (R : 0 < r) where
+  below-trans : (s t u : Bool) → below s (a * q) t (b * p) ≡ true → below t (b * r) u (c * q) ≡ true → below s (a * r) u (c * p) ≡ true
+  below-trans false false false h k = lt-ltb (a * r) (c * p) (strict a p b q c r P (ltb-true (a * q) (b * p) h) (ltb-true (b * r) (c * q) k))
+  below-trans false false true h k = k
+  below-trans false true u h k = no h
+  below-trans true false false h k = lt-ltb 0 (a * r + c * p) (omega (arith, mul-pos (some (b * r) c q (ltb-true (b * r) (c * q) k)) P))
+  below-trans true false true h k = no k
+  below-trans true true false h k = lt-ltb 0 (a * r + c * p) (omega (arith, mul-pos (some (b * p) a q (ltb-true (b * p) (a * q) h)) R))
+  below-trans true true true h k = lt-ltb (c * p) (a * r) (strict c r b q a p R (ltb-true (c * q) (b * r) k) (ltb-true (b * p) (a * q) h))
+
+-- below what is below
+pub lt-trans : (x y z : Float) → lt x y ≡ true → lt y z ≡ true → lt x z ≡ true
+unfolding lt
+lt-trans x nan z h k = no k
+lt-trans x (inf true) z h k = no (sym (none-below x) ∙ h)
+lt-trans x (inf false) z h k = no (sym (none-above z) ∙ k)
+lt-trans nan (fin t n d) z h k = h
+lt-trans (inf s) (fin t n d) nan h k = k
+lt-trans (inf s) (fin t n d) (inf u) h k = rw h k
+lt-trans (inf s) (fin t n d) (fin u o g) h k = h
+lt-trans (fin s m e) (fin t n d) nan h k = k
+lt-trans (fin s m e) (fin t n d) (inf u) h k = k
+lt-trans (fin s m e) (fin t n d) (fin u o g) h k =
+    below-trans (m * up e) (down e) (n * up d) (down d) (o * up g) (down g) (down-pos e) (down-pos g) s t u h k
+
+-- what is compared and found below is a number, on either side
+pub lt-numbers : (x y : Float) → lt x y ≡ true → (isNan x ≡ false) × (isNan y ≡ false)
+unfolding lt isNan
+lt-numbers nan y h = no h
+lt-numbers (inf s) nan h = no h
+lt-numbers (inf s) (inf t) h = (refl, refl)
+lt-numbers (inf s) (fin t n d) h = (refl, refl)
+lt-numbers (fin s m e) nan h = no h
+lt-numbers (fin s m e) (inf t) h = (refl, refl)
+lt-numbers (fin s m e) (fin t n d) h = (refl, refl)
+
+-- ---- below or equal
+either : (a b : Bool) → (a || b) ≡ true → (a ≡ true) ⊎ (b ≡ true)
+either true b h = inl refl
+either false b h = inr h
+
+-- which of the two it is
+pub le-or : (x y : Float) → le x y ≡ true → (lt x y ≡ true) ⊎ (eq x y ≡ true)
+unfolding le
+le-or x y h = either (lt x y) (eq x y) h
+
+-- all but NaN are at most themselves
+pub le-self : (x : Float) → le x x ≡ not (isNan x)
+unfolding le
+le-self x = rw (lt-irrefl x) (eq-self x)
+
+-- ---- nothing is rounded to a NaN
+cond-number : (b : Bool) (x y : Float) → isNan x ≡ false → isNan y ≡ false → isNan (cond b x y) ≡ false
+cond-number true x y h k = h
+cond-number false x y h k = k
+
+odd-number : (d : ℕ) (s : Bool) (q k l : ℕ) → isNan (odd d s q k l) ≡ false
+unfolding odd isNan
+odd-number d s zero k l = refl
+odd-number d s (suc q) k l = refl
+
+units-number : (f : Format) (s : Bool) (q k : ℕ) → isNan (units f s q k) ≡ false
+unfolding units isNan
+units-number f s q k = cond-number (ltb (q * 2 ^ k) (2 ^ (low f + suc (emax f)))) _ (inf s) (odd-number (suc (prec f)) s q k (low f)) refl
+
+round-number : (f : Format) (s : Bool) (a c : ℕ) → isNan (round f s a c) ≡ false
+round-number f s a c = rw (round-is f s a c) (units-number f s _ _)
+
+sum-number : (f : Format) (s : Bool) (a : ℕ) (t : Bool) (b c : ℕ) → isNan (sum f s a t b c) ≡ false
+unfolding sum
+sum-number f s a t b c =
+    cond-number (Bool·beq s t) _ _ (round-number f s (a + b) c)
+    (cond-number (ltb a b) _ _ (round-number f t (b - a) c) (round-number f (s && ltb b a) (a - b) c))
+
+-- a number with a finite one added is a number
+pub not-nan-add : (x c : Float) → T (finite c) → isNan x ≡ false → isNan (x ⊕ c) ≡ false
+unfolding add isNan
+not-nan-add x nan f h = absurd f
+not-nan-add x (inf t) f h = absurd f
+not-nan-add nan (fin t n d) f h = h
+not-nan-add (inf s) (fin t n d) f h = refl
+not-nan-add (fin s m e) (fin t n d) f h = sum-number binary64 s (m * up e * down d) t (n * up d * down e) (down e * down d)
+
+-- a number times a finite one that is not 0 is a number
+pub not-nan-mul : (x c : Float) → T (finite c) → eq c nought ≡ false → isNan x ≡ false → isNan (x ⊗ c) ≡ false
+unfolding mul isNan eq ofBits
+not-nan-mul x nan f z h = absurd f
+not-nan-mul x (inf t) f z h = absurd f
+not-nan-mul nan (fin t n d) f z h = h
+not-nan-mul (inf s) (fin true zero d) f z h = absurd (true≢false (simp zero-mul at z))
+not-nan-mul (inf s) (fin false zero d) f z h = absurd (true≢false (simp zero-mul at z))
+not-nan-mul (inf s) (fin t (suc n) d) f z h = rw (eqb·suc-zero n)
+not-nan-mul (fin s m e) (fin t n d) f z h = round-number binary64 (unlike s t) (m * up e * (n * up d)) (down e * down d)

@@ -1,0 +1,2 @@
+pub mod Ops
+pub mod Methods
