@@ -40,24 +40,40 @@ scaledOf y k =
     if ltb 100 k && ltb k 2100 then y ⊗ powerOfTwoOf (k - 77)
     else y ⊗ powerOfTwoOf (a + 473) ⊗ powerOfTwoOf (c - a + 473)
 
--- exp x for an x between the limits of expOf. The first factor is 128/ln 2; those of the whole part are -ln 2/128 in two parts, so that r is exact
--- but for its last operations. Neither 0 is ever given: with these two tests no result is NaN and none is below 0.
+-- y, or 0 in place of a y that is below 0 or NaN
+unfoldable pub from0Of : Float → Float
+from0Of y =
+    if le nought y then y
+    else nought
+
+-- (128·k + j) + shift: the factor is 128/ln 2
+abbrev pub stepsOf : Float → Float
+stepsOf x = x ⊗ bits 0x4067_1547_652b_82fe ⊕ shift
+
+-- exp x for an x between the limits of expOf. The factors of the whole part are -ln 2/128 in two parts, so that r is exact but for its last operations.
+-- No such x has a NaN for m or a y below 0: the two tests only show at once that no result is below 0 and none is NaN.
 unfoldable pub nearOf : Float → Float
 nearOf x =
-    let m = x ⊗ bits 0x4067_1547_652b_82fe ⊕ shift in
+    let m = stepsOf x in
     let n = toBits binary64 m % 2 ^ 19 in
     let whole = m ⊖ shift in
     let r = whole ⊗ bits 0xbd0c_f79a_bc9e_3b3a ⊕ (whole ⊗ bits 0xbf76_2e42_fefa_0000 ⊕ x) in
     let e = rowOf (n % 128) in
-    let y = scaledOf (fmaSmallProductOf (e .head) (seriesOf r (e .tail)) (e .head)) (n / 128) in
     if ne m m then nought
-    else if le nought y then y
-    else nought
+    else from0Of (scaledOf (fmaSmallProductOf (e .head) (seriesOf r (e .tail)) (e .head)) (n / 128))
 
--- exp x: from 709.79 on an infinity, and up to -746 it is 0
+-- 709.79: above it the result is beyond the largest f64
+abbrev pub highest : Float
+highest = bits 0x4086_2e51_eb85_1eb8
+
+-- -746: below it the result is less than half of the least f64
+abbrev pub lowest : Float
+lowest = bits 0xc087_5000_0000_0000
+
+-- exp x
 unfoldable pub expOf : Float → Float
 expOf x =
     if ne x x then x
-    else if lt (bits 0x4086_2e51_eb85_1eb8) x then infinite
-    else if lt x (bits 0xc087_5000_0000_0000) then nought
+    else if lt highest x then infinite
+    else if lt x lowest then nought
     else nearOf x

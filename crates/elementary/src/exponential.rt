@@ -5,10 +5,10 @@ ghost use Prim.Native.Nat.{_<_};
 ghost use Rattle.elementary.specs.Exp.{rowOf, seriesOf, powerOfTwoOf, scaledOf, nearOf, expOf};
 use crate::fma::fma_small_product;
 
-// From here on the result is beyond the largest f64.
+// Above it the result is beyond the largest f64.
 const HIGHEST: f64 = 709.79;
 
-// Up to here the result is below half of the least f64.
+// Below it the result is less than half of the least f64.
 const LOWEST: f64 = -746.0;
 
 // 128 / ln 2

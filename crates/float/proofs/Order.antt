@@ -1,21 +1,26 @@
 -- The order of all floats, NaN and the infinities included, as a program's tests say it; and which sums and products are no NaN. Assumes nothing.
 use mathlib.Core.Path.{_≡_, refl, sym, ap, _∙_}
 use mathlib.Core.Bool.{Bool, true, false, not, _&&_, _||_, Bool·beq, Bool·not-not, cond, true≢false, false≢true}
-use mathlib.Core.Logic.{_⊎_, inl, inr}
+use mathlib.Core.Logic.{_⊎_, inl, inr, ⊎-elim}
 use Prim.Native.Nat.{ℕ, zero, suc, _+_, _-_, _*_, _^_, _<_}
 use native.Mathlib.Nat.{le-of-eq, le-of-lt, lt-of-lt-of-le, lt-of-le-of-lt, mul-right-comm, mul-le-mul-right, mul-lt-mul-of-pos-right, lt-of-mul-lt-mul-right, mul-pos, zero-mul}
 use native.Mathlib.Omega.{arith}
-use lib.Dec.{T, ltb, eqb·suc-zero}
-use lib.Ieee.{Float, nan, inf, fin, Format, prec, emax, low, binary64, unlike, up, down, odd, units, round, sum, add, mul, below, lt, eq, le, ne, isNan, ofBits}
+use lib.Dec.{T, ltb, eqb, eqb·suc-zero}
+use lib.Ieee.{Float, nan, inf, fin, Format, prec, emax, low, binary64, unlike, up, down, odd, units, round, sum, add, mul, below, level, lt, eq, le, ne, isNan, ofBits}
 use lib.Ieee.Fits.{down-pos, round-is}
 use lib.Ieee.Positive.{first-pos}
 use lib.Ieee.Scale.{finite}
-use borrow.Author.Tests.{ltb-true, lt-ltb, le-ltb, eq-eqb}
+use borrow.Author.Tests.{ltb-true, lt-ltb, le-ltb, eq-eqb, eqb-true}
 use Rattle.float.specs.Ops.{_⊕_, _⊗_, nought}
 
 -- a test that cannot have passed
 no : {A : Type 0} → false ≡ true → A
 no h = absurd (false≢true h)
+
+-- both tests have passed
+both : (a b : Bool) → (a && b) ≡ true → (a ≡ true) × (b ≡ true)
+both true b h = (refl, h)
+both false b h = no h
 
 -- ---- a value and itself
 beq-self : (s : Bool) → Bool·beq s s ≡ true
@@ -145,6 +150,45 @@ le-or x y h = either (lt x y) (eq x y) h
 pub le-self : (x : Float) → le x x ≡ not (isNan x)
 unfolding le
 le-self x = rw (lt-irrefl x) (eq-self x)
+
+-- what is equal is a number, on either side
+pub eq-numbers : (x y : Float) → eq x y ≡ true → (isNan x ≡ false) × (isNan y ≡ false)
+unfolding eq isNan
+eq-numbers nan y h = no h
+eq-numbers (inf s) nan h = no h
+eq-numbers (inf s) (inf t) h = (refl, refl)
+eq-numbers (inf s) (fin t n d) h = no h
+eq-numbers (fin s m e) nan h = no h
+eq-numbers (fin s m e) (inf t) h = no h
+eq-numbers (fin s m e) (fin t n d) h = (refl, refl)
+
+-- ±a = ±b, and ±b is not below ±a
+level-below : (s : Bool) (a : ℕ) (t : Bool) (b : ℕ) → level s a t b ≡ true → below t b s a ≡ false
+level-below false a false b h = le-ltb b a (le-of-eq (eqb-true a b (both (eqb a b) _ h .0)))
+level-below false a true b h = le-ltb 0 (b + a) (omega (arith, eqb-true a b (both (eqb a b) _ h .0), eqb-true a 0 (both (eqb a b) _ h .1)))
+level-below true a false b h = refl
+level-below true a true b h = le-ltb a b (le-of-eq (sym (eqb-true a b (both (eqb a b) _ h .0))))
+
+-- of two equal values neither is below the other
+pub eq-not-lt : (x y : Float) → eq x y ≡ true → lt y x ≡ false
+unfolding eq lt
+eq-not-lt nan y h = no h
+eq-not-lt (inf s) nan h = no h
+eq-not-lt (inf true) (inf true) h = refl
+eq-not-lt (inf true) (inf false) h = no h
+eq-not-lt (inf false) (inf true) h = no h
+eq-not-lt (inf false) (inf false) h = refl
+eq-not-lt (inf s) (fin t n d) h = no h
+eq-not-lt (fin s m e) nan h = no h
+eq-not-lt (fin s m e) (inf t) h = no h
+eq-not-lt (fin s m e) (fin t n d) h = level-below s (m * up e * down d) t (n * up d * down e) h
+
+-- what is found below or equal is a number, on either side, and the other is not below it
+pub le-numbers : (x y : Float) → le x y ≡ true → (isNan x ≡ false) × (isNan y ≡ false)
+le-numbers x y h = ⊎-elim (lt-numbers x y) (eq-numbers x y) (le-or x y h)
+
+pub le-not-lt : (x y : Float) → le x y ≡ true → lt y x ≡ false
+le-not-lt x y h = ⊎-elim (lt-asym x y) (eq-not-lt x y) (le-or x y h)
 
 -- ---- nothing is rounded to a NaN
 cond-number : (b : Bool) (x y : Float) → isNan x ≡ false → isNan y ≡ false → isNan (cond b x y) ≡ false

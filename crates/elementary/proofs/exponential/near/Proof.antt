@@ -1,5 +1,5 @@
 use Rattle.float.proofs.Patterns.{number}
-use Rattle.elementary.specs.Exp.{nearOf}
+use Rattle.elementary.specs.Exp.{from0Of, nearOf}
 use borrow.Author.Needs.{needs}
 use Rattle.elementary.proofs.exponential.near.Statement.{statement}
 use Rattle.elementary.proofs.exponential.near.Tie as tie
@@ -37,14 +37,14 @@ scaled-requires c κs = search needs
 
 -- src/exponential.rt:69:9
 returns-2 : tie.Need-returns-2
-unfolding nearOf
+unfolding nearOf from0Of
 returns-2 c =
     let t = c .before .before .before .before in
     simp (t .before .if1 .left, ← t .row .ensures, ← c .before .before .before .series .ensures, ← c .before .before .fma-small-product .ensures, ← c .before .scaled .ensures, c .if2 .taken)
 
 -- src/exponential.rt:53:1
 returns-3 : tie.Need-returns-3
-unfolding nearOf
+unfolding nearOf from0Of
 returns-3 c =
     let t = c .before .before .before .before in
     simp (t .before .if1 .left, ← t .row .ensures, ← c .before .before .before .series .ensures, ← c .before .before .fma-small-product .ensures, ← c .before .scaled .ensures, c .if2 .left)
