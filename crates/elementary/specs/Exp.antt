@@ -3,20 +3,14 @@
 use Prim.Native.Nat.{ℕ, _+_, _-_, _*_, _/_, _%_, _^_}
 use mathlib.Core.Bool.{_&&_}
 use lib.Dec.{ltb}
-use lib.ListN.{getD}
 use lib.Ieee.{Float, binary64, toBits, lt, le, ne}
-use Rattle.elementary.specs.declared.exponential.ExpRow.{ExpRow}
 use Rattle.float.specs.Ops.{_⊕_, _⊖_, _⊗_, bits, nought, infinite, if_then_else_}
 use Rattle.elementary.specs.Fma.{fmaSmallProductOf}
-use Rattle.elementary.specs.ExpTable.{heads, tails}
+use Rattle.elementary_tables.specs.ExpTable.{expRowOf}
 
 -- 1.5·2^52 + 128·1100: a sum with it is a whole number, whose last binary digits hold 128·(k + 1100) + j
 abbrev pub shift : Float
 shift = bits 0x4338_0000_0002_2600
-
--- 2^(j/128) as a rounded head, and what the rounding left out, relative to it
-unfoldable pub rowOf : ℕ → ExpRow
-rowOf j = record { head = bits (getD heads j 0); tail = bits (getD tails j 0) }
 
 -- exp r - 1 to the fifth power of r, with tail added to the first
 unfoldable pub seriesOf : Float → Float → Float
@@ -58,7 +52,7 @@ nearOf x =
     let n = toBits binary64 m % 2 ^ 19 in
     let whole = m ⊖ shift in
     let r = whole ⊗ bits 0xbd0c_f79a_bc9e_3b3a ⊕ (whole ⊗ bits 0xbf76_2e42_fefa_0000 ⊕ x) in
-    let e = rowOf (n % 128) in
+    let e = expRowOf (n % 128) in
     if ne m m then nought
     else from0Of (scaledOf (fmaSmallProductOf (e .head) (seriesOf r (e .tail)) (e .head)) (n / 128))
 

@@ -1,24 +1,13 @@
 -- ln: a normal x is z·2^k with z from 0.6875 to 1.375; with c from a table, near z, and r = z/c - 1, ln x = k·ln 2 + ln c + ln(1 + r).
 -- Definitions only.
 use Prim.Native.Nat.{ℕ, _+_, _-_, _/_, _%_, _^_}
-use lib.ListN.{getD}
 use lib.Ieee.{Float, binary64, toBits, lt, le, eq, ne, neg}
-use Rattle.elementary.specs.declared.logarithm.LnRow.{LnRow}
+use Rattle.elementary_tables.specs.declared.ln_table.LnRow.{LnRow}
 use Rattle.float.specs.Ops.{_⊕_, _⊖_, _⊗_, _⊘_, bits, whole, nought, one, if_then_else_}
 use Rattle.float.specs.Methods.{betweenOf}
 use Rattle.elementary.specs.Fma.{lostOf}
-use Rattle.elementary.specs.LnTable.{inverses, inverseHeads, inverseTails, logarithms}
+use Rattle.elementary_tables.specs.LnTable.{lnRowOf}
 use Rattle.elementary.specs.LnOnePlus.{lnOnePlusOf}
-
--- 1/c, the same in two parts, and ln c
-unfoldable pub rowOf : ℕ → LnRow
-rowOf i =
-    record {
-      inverse = bits (getD inverses i 0);
-      head = bits (getD inverseHeads i 0);
-      tail = bits (getD inverseTails i 0);
-      logarithm = bits (getD logarithms i 0);
-    }
 
 -- z/c - 1 with one rounding, for the z of this bit pattern: its leading 26 digits are the pattern without its last 27
 unfoldable pub ratioOf : ℕ → LnRow → Float
@@ -33,7 +22,7 @@ ratioOf pattern e =
 unfoldable pub normalOf : Float → Float → Float
 normalOf x bias =
     let v = toBits binary64 x % 2 ^ 63 + 0x001a_0000_0000_0000 in
-    let e = rowOf (v / 2 ^ 45 % 128) in
+    let e = lnRowOf (v / 2 ^ 45 % 128) in
     let k = whole (v / 2 ^ 52) ⊖ bias in
     let r = ratioOf (v % 2 ^ 52 + 0x3fe6_0000_0000_0000) e in
     let w = k ⊗ bits 0x3fe6_2e42_fefa_3800 ⊕ e .logarithm in

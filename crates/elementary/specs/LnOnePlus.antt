@@ -43,10 +43,10 @@ expansionOf f =
     let p = z4 ⊗ z2 ⊗ (z ⊗ l7 ⊕ l6) ⊕ (z4 ⊗ (z ⊗ l5 ⊕ l4) ⊕ low) in
     record { half = h; rest = s ⊗ (h ⊕ p) }
 
--- k·ln 2 + ln(1 + f) + c, ln 2 in two parts so that its product with the first is exact
+-- k·ln 2 + ln(1 + f) + c, ln 2 in two parts so that its product with the first is exact; without c where k is 0
 unfoldable pub joinedOf : Parts → Series → Float
 joinedOf t a =
-    if eq (t .k) nought then t .f ⊖ (a .half ⊖ (a .rest ⊕ t .c))
+    if eq (t .k) nought then t .f ⊖ (a .half ⊖ a .rest)
     else t .k ⊗ bits 0x3fe6_2e42_fee0_0000 ⊖ (a .half ⊖ (a .rest ⊕ (t .k ⊗ bits 0x3dea_39ef_3579_3c76 ⊕ t .c)) ⊖ t .f)
 
 -- ln(1 + x) before the last test: up to 2^-29 either way x - x²/2, an infinity is its own logarithm

@@ -126,12 +126,13 @@ fn expansion(f: f64) -> Series
     }
 }
 
-// k * ln 2 + ln(1 + f) + c
+// k * ln 2 + ln(1 + f) + c. Where k is 0, c is left out: it is 0 there but for a number or two, at
+// which the C library leaves it out as well.
 fn joined(t: Parts, a: Series) -> f64
     ensures { λ r. ⌜ r ≡ joinedOf t a ⌝ }
 {
     if t.k == 0.0 {
-        return t.f - (a.half - (a.rest + t.c));
+        return t.f - (a.half - a.rest);
     }
     t.k * LN_2_HI - ((a.half - (a.rest + (t.k * LN_2_LO + t.c))) - t.f)
 }

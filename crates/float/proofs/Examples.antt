@@ -1,23 +1,15 @@
 -- The definitions at their corners, by computation. Assumes nothing.
-use mathlib.Core.Bool.{Bool, true, not, _&&_}
+use mathlib.Core.Bool.{Bool, not}
 use mathlib.Core.List.{List, [], _∷_}
 use Prim.Native.Nat.{_-_, _^_}
 use lib.Dec.{T, eqb}
-use lib.Ieee.{Float, nan, binary64, neg, div, lt, isNan, ofBits, toBits}
+use lib.Ieee.{nan, neg, div, lt, isNan, ofBits, toBits}
 use lib.Ieee.Scale.{finite}
+use Rattle.float.specs.Claims.{same, all}
 use Rattle.float.specs.Ops.{bits, nought, one, infinite}
-use Rattle.float.specs.Methods.{absOf, maxOf, floorOf}
+use Rattle.float.specs.Methods.{absOf, maxOf, betweenOf, floorOf}
 
--- the same value: NaN is NaN, and -0.0 is not 0.0
-abbrev same : Float → Float → Bool
-same x y = eqb (toBits binary64 x) (toBits binary64 y)
-
--- each of them is true
-abbrev all : List Bool → Bool
-all [] = true
-all (b ∷ bs) = b && all bs
-
--- of abs, max, floor_to_u64 and is_finite, in turn
+-- of abs, max, between, floor_to_u64 and is_finite, in turn
 abbrev examples : List Bool
 examples =
     same (absOf (neg nought)) nought
@@ -31,6 +23,10 @@ examples =
     ∷ same (maxOf nought one) one
     ∷ same (maxOf nought (neg nought)) nought
     ∷ same (maxOf (neg nought) nought) (neg nought)
+    ∷ betweenOf (neg one) nought one
+    ∷ not (betweenOf nought nought one)
+    ∷ not (betweenOf nought one one)
+    ∷ not (betweenOf nought nan one)
     ∷ eqb (floorOf (bits 0x4007_fdf3_b645_a1cb)) 2  -- 2.999
     ∷ eqb (floorOf (bits 0xbfe0_0000_0000_0000)) 0  -- -0.5
     ∷ eqb (floorOf nan) 0
@@ -47,5 +43,5 @@ examples =
 
 -- all of them hold
 pub corners : T (all examples)
-unfolding neg div lt isNan ofBits toBits absOf maxOf floorOf
+unfolding neg div lt isNan ofBits toBits same absOf maxOf betweenOf floorOf
 corners = tt

@@ -2,4 +2,5 @@ pub mod Order
 pub mod Patterns
 pub mod Finite
 pub mod Floor
+pub mod Claims
 pub mod Examples

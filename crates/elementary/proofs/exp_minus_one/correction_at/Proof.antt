@@ -2,9 +2,6 @@ use Rattle.elementary.specs.ExpMinusOne.{correctionOf}
 use borrow.Author.Needs.{needs}
 use Rattle.elementary.proofs.exp_minus_one.correction_at.Statement.{statement}
 use Rattle.elementary.proofs.exp_minus_one.correction_at.Tie as tie
-use Rattle.elementary.proofs.exp_minus_one.correction_at.Reads as reads
-use Rattle.elementary.proofs.exp_minus_one.correction_at.Lts as lts
-use Rattle.elementary.proofs.fma.fma_small_product.Reads as fma-small-product-reads
 
 fma-small-product-requires : tie.Need-fma-small-product-requires
 fma-small-product-requires c κs = search needs

@@ -2,12 +2,6 @@ use Rattle.elementary.specs.ExpMinusOne.{expMinusOneOf}
 use borrow.Author.Needs.{needs}
 use Rattle.elementary.proofs.exp_minus_one.exp_m1.Statement.{statement}
 use Rattle.elementary.proofs.exp_minus_one.exp_m1.Tie as tie
-use Rattle.elementary.proofs.exp_minus_one.exp_m1.Reads as reads
-use Rattle.elementary.proofs.exp_minus_one.exp_m1.Lts as lts
-use Rattle.elementary.proofs.exp_minus_one.near_zero.Reads as near-zero-reads
-use Rattle.elementary.proofs.exp_minus_one.shifted.Reads as shifted-reads
-use Rattle.elementary.proofs.exponential.exp.Reads as exp-reads
-use Rattle.float.proofs.between.Reads as between-reads
 
 between-requires : tie.Need-between-requires
 between-requires c κs = search needs

@@ -2,10 +2,6 @@ use Rattle.elementary.specs.ExpMinusOne.{nearZeroOf}
 use borrow.Author.Needs.{needs}
 use Rattle.elementary.proofs.exp_minus_one.near_zero.Statement.{statement}
 use Rattle.elementary.proofs.exp_minus_one.near_zero.Tie as tie
-use Rattle.elementary.proofs.exp_minus_one.near_zero.Reads as reads
-use Rattle.elementary.proofs.exp_minus_one.near_zero.Lts as lts
-use Rattle.elementary.proofs.exp_minus_one.correction_at.Reads as correction-at-reads
-use Rattle.elementary.proofs.fma.fma_small_product.Reads as fma-small-product-reads
 
 correction-at-requires : tie.Need-correction-at-requires
 correction-at-requires c κs = search needs

@@ -2,10 +2,6 @@ use Rattle.elementary.specs.ExpMinusOne.{shiftedOf}
 use borrow.Author.Needs.{needs}
 use Rattle.elementary.proofs.exp_minus_one.shifted.Statement.{statement}
 use Rattle.elementary.proofs.exp_minus_one.shifted.Tie as tie
-use Rattle.elementary.proofs.exp_minus_one.shifted.Reads as reads
-use Rattle.elementary.proofs.exp_minus_one.shifted.Lts as lts
-use Rattle.elementary.proofs.exp_minus_one.correction_at.Reads as correction-at-reads
-use Rattle.elementary.proofs.fma.fma_large_product.Reads as fma-large-product-reads
 
 correction-at-requires : tie.Need-correction-at-requires
 correction-at-requires c κs = search needs

@@ -2,30 +2,22 @@ use Rattle.elementary.specs.Exp.{expOf}
 use borrow.Author.Needs.{needs}
 use Rattle.elementary.proofs.exponential.exp.Statement.{statement}
 use Rattle.elementary.proofs.exponential.exp.Tie as tie
-use Rattle.elementary.proofs.exponential.exp.Reads as reads
-use Rattle.elementary.proofs.exponential.exp.Lts as lts
-use Rattle.elementary.proofs.exponential.near.Reads as near-reads
 
--- src/exponential.rt:40:9
 returns : tie.Need-returns
 unfolding expOf
 returns c = rw (c .if1 .taken)
 
--- src/exponential.rt:43:9
 returns-2 : tie.Need-returns-2
 unfolding expOf
 returns-2 c = rw (c .before .if1 .left, c .if2 .taken)
 
--- src/exponential.rt:46:9
 returns-3 : tie.Need-returns-3
 unfolding expOf
 returns-3 c = rw (c .before .before .if1 .left, c .before .if2 .left, c .if3 .taken)
 
--- src/exponential.rt:48:5
 near-requires : tie.Need-near-requires
 near-requires c κs = search needs
 
--- src/exponential.rt:36:1
 returns-4 : tie.Need-returns-4
 unfolding expOf
 returns-4 c = rw (c .before .before .before .if1 .left, c .before .before .if2 .left, c .before .if3 .left) (c .near .ensures)

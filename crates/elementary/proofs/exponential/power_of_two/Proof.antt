@@ -5,18 +5,13 @@ use Rattle.elementary.specs.Exp.{powerOfTwoOf}
 use borrow.Author.Needs.{needs}
 use Rattle.elementary.proofs.exponential.power_of_two.Statement.{statement}
 use Rattle.elementary.proofs.exponential.power_of_two.Tie as tie
-use Rattle.elementary.proofs.exponential.power_of_two.Reads as reads
-use Rattle.elementary.proofs.exponential.power_of_two.Lts as lts
 
--- src/exponential.rt:87:20
 mul-result : tie.Need-mul-result
 mul-result c = search needs
 
--- src/exponential.rt:87:5
 float-from-bits-result : tie.Need-float-from-bits-result
 float-from-bits-result c = no-nan _ (omega arith)
 
--- src/exponential.rt:83:1
 returns : tie.Need-returns
 unfolding powerOfTwoOf
 returns c = refl

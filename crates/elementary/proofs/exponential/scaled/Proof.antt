@@ -4,44 +4,32 @@ use Rattle.elementary.specs.Exp.{scaledOf}
 use borrow.Author.Needs.{needs}
 use Rattle.elementary.proofs.exponential.scaled.Statement.{statement}
 use Rattle.elementary.proofs.exponential.scaled.Tie as tie
-use Rattle.elementary.proofs.exponential.scaled.Reads as reads
-use Rattle.elementary.proofs.exponential.scaled.Lts as lts
-use Rattle.elementary.proofs.exponential.power_of_two.Reads as power-of-two-reads
 
--- src/exponential.rt:97:37
 sub-power-of-two : tie.Need-sub-power-of-two
 sub-power-of-two c = search needs
 
--- src/exponential.rt:97:24
 power-of-two-requires : tie.Need-power-of-two-requires
 power-of-two-requires c κs = search needs
 
--- src/exponential.rt:97:13
 returns : tie.Need-returns
 unfolding scaledOf
 returns c = rw (lt-ltb _ _ (c .before .before .if1 .taken), lt-ltb _ _ (c .before .if2 .taken), c .power-of-two .ensures)
 
--- src/exponential.rt:102:22
 add-power-of-two : tie.Need-add-power-of-two
 add-power-of-two c = search needs
 
--- src/exponential.rt:102:9
 power-of-two-requires-2 : tie.Need-power-of-two-requires-2
 power-of-two-requires-2 c κs = search needs
 
--- src/exponential.rt:102:46
 sub-power-of-two-2 : tie.Need-sub-power-of-two-2
 sub-power-of-two-2 c = search needs
 
--- src/exponential.rt:102:46
 add-power-of-two-2 : tie.Need-add-power-of-two-2
 add-power-of-two-2 c = search needs
 
--- src/exponential.rt:102:33
 power-of-two-requires-3 : tie.Need-power-of-two-requires-3
 power-of-two-requires-3 c κs = search needs
 
--- src/exponential.rt:92:1
 returns-2 : tie.Need-returns-2
 unfolding scaledOf
 returns-2 c =

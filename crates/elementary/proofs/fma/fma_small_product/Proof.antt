@@ -2,20 +2,14 @@ use Rattle.elementary.specs.Fma.{fmaSmallProductOf}
 use borrow.Author.Needs.{needs}
 use Rattle.elementary.proofs.fma.fma_small_product.Statement.{statement}
 use Rattle.elementary.proofs.fma.fma_small_product.Tie as tie
-use Rattle.elementary.proofs.fma.fma_small_product.Reads as reads
-use Rattle.elementary.proofs.fma.fma_small_product.Lts as lts
-use Rattle.elementary.proofs.fma.product_error.Reads as product-error-reads
 
--- src/fma.rt:45:9
 returns : tie.Need-returns
 unfolding fmaSmallProductOf
 returns c = rw (c .if1 .taken)
 
--- src/fma.rt:47:14
 product-error-requires : tie.Need-product-error-requires
 product-error-requires c κs = search needs
 
--- src/fma.rt:38:1
 returns-2 : tie.Need-returns-2
 unfolding fmaSmallProductOf
 returns-2 c = rw (c .before .if1 .left, c .product-error .ensures)

@@ -2,10 +2,7 @@ use mathlib.Core.Path.{refl}
 use Rattle.elementary.specs.Fma.{headOf}
 use Rattle.elementary.proofs.fma.head.Statement.{statement}
 use Rattle.elementary.proofs.fma.head.Tie as tie
-use Rattle.elementary.proofs.fma.head.Reads as reads
-use Rattle.elementary.proofs.fma.head.Lts as lts
 
--- src/fma.rt:13:1
 returns : tie.Need-returns
 unfolding headOf
 returns c = refl

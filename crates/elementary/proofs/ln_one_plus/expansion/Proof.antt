@@ -2,9 +2,6 @@ use Rattle.elementary.specs.LnOnePlus.{expansionOf}
 use borrow.Author.Needs.{needs}
 use Rattle.elementary.proofs.ln_one_plus.expansion.Statement.{statement}
 use Rattle.elementary.proofs.ln_one_plus.expansion.Tie as tie
-use Rattle.elementary.proofs.ln_one_plus.expansion.Reads as reads
-use Rattle.elementary.proofs.ln_one_plus.expansion.Lts as lts
-use Rattle.elementary.proofs.fma.fma_large_product.Reads as fma-large-product-reads
 
 fma-large-product-requires : tie.Need-fma-large-product-requires
 fma-large-product-requires c κs = search needs

@@ -1,12 +1,10 @@
 use Rattle.elementary.specs.LnOnePlus.{joinedOf}
 use Rattle.elementary.proofs.ln_one_plus.joined.Statement.{statement}
 use Rattle.elementary.proofs.ln_one_plus.joined.Tie as tie
-use Rattle.elementary.proofs.ln_one_plus.joined.Reads as reads
-use Rattle.elementary.proofs.ln_one_plus.joined.Lts as lts
 
 returns : tie.Need-returns
 unfolding joinedOf
-returns c = rw (c .before .before .before .before .if1 .taken)
+returns c = rw (c .before .before .if1 .taken)
 
 returns-2 : tie.Need-returns-2
 unfolding joinedOf

@@ -2,9 +2,6 @@ use Rattle.elementary.specs.LnOnePlus.{lnOnePlusOf}
 use borrow.Author.Needs.{needs}
 use Rattle.elementary.proofs.ln_one_plus.ln_1p.Statement.{statement}
 use Rattle.elementary.proofs.ln_one_plus.ln_1p.Tie as tie
-use Rattle.elementary.proofs.ln_one_plus.ln_1p.Reads as reads
-use Rattle.elementary.proofs.ln_one_plus.ln_1p.Lts as lts
-use Rattle.elementary.proofs.ln_one_plus.number.Reads as number-reads
 
 number-requires : tie.Need-number-requires
 number-requires c κs = search needs

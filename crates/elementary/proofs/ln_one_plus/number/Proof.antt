@@ -2,12 +2,6 @@ use Rattle.elementary.specs.LnOnePlus.{numberOf}
 use borrow.Author.Needs.{needs}
 use Rattle.elementary.proofs.ln_one_plus.number.Statement.{statement}
 use Rattle.elementary.proofs.ln_one_plus.number.Tie as tie
-use Rattle.elementary.proofs.ln_one_plus.number.Reads as reads
-use Rattle.elementary.proofs.ln_one_plus.number.Lts as lts
-use Rattle.elementary.proofs.ln_one_plus.expansion.Reads as expansion-reads
-use Rattle.elementary.proofs.ln_one_plus.joined.Reads as joined-reads
-use Rattle.elementary.proofs.ln_one_plus.reduced.Reads as reduced-reads
-use Rattle.float.proofs.between.Reads as between-reads
 
 between-requires : tie.Need-between-requires
 between-requires c κs = search needs

@@ -4,9 +4,6 @@ use Rattle.elementary.specs.LnOnePlus.{reducedOf}
 use borrow.Author.Needs.{needs}
 use Rattle.elementary.proofs.ln_one_plus.reduced.Statement.{statement}
 use Rattle.elementary.proofs.ln_one_plus.reduced.Tie as tie
-use Rattle.elementary.proofs.ln_one_plus.reduced.Reads as reads
-use Rattle.elementary.proofs.ln_one_plus.reduced.Lts as lts
-use Rattle.float.proofs.between.Reads as between-reads
 
 between-requires : tie.Need-between-requires
 between-requires c κs = search needs

@@ -2,11 +2,6 @@ use Rattle.elementary.specs.Ln.{lnOf}
 use borrow.Author.Needs.{needs}
 use Rattle.elementary.proofs.logarithm.ln.Statement.{statement}
 use Rattle.elementary.proofs.logarithm.ln.Tie as tie
-use Rattle.elementary.proofs.logarithm.ln.Reads as reads
-use Rattle.elementary.proofs.logarithm.ln.Lts as lts
-use Rattle.elementary.proofs.ln_one_plus.ln_1p.Reads as ln-1p-reads
-use Rattle.elementary.proofs.logarithm.normal.Reads as normal-reads
-use Rattle.float.proofs.between.Reads as between-reads
 
 returns : tie.Need-returns
 unfolding lnOf

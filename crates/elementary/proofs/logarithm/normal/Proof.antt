@@ -3,10 +3,6 @@ use Rattle.elementary.specs.Ln.{normalOf}
 use borrow.Author.Needs.{needs}
 use Rattle.elementary.proofs.logarithm.normal.Statement.{statement}
 use Rattle.elementary.proofs.logarithm.normal.Tie as tie
-use Rattle.elementary.proofs.logarithm.normal.Reads as reads
-use Rattle.elementary.proofs.logarithm.normal.Lts as lts
-use Rattle.elementary.proofs.logarithm.ratio.Reads as ratio-reads
-use Rattle.elementary.proofs.logarithm.row.Reads as row-reads
 
 returns : tie.Need-returns
 unfolding normalOf
@@ -18,8 +14,8 @@ float-to-bits-v c = number _ (c .if1 .left)
 add-v : tie.Need-add-v
 add-v c = search needs
 
-row-requires : tie.Need-row-requires
-row-requires c κs = search needs
+ln-row-requires : tie.Need-ln-row-requires
+ln-row-requires c κs = search needs
 
 cast-k : tie.Need-cast-k
 cast-k c = search needs
@@ -35,7 +31,7 @@ ratio-requires c κs = search needs
 
 returns-2 : tie.Need-returns-2
 unfolding normalOf
-returns-2 c = simp (c .before .before .before .before .if1 .left, ← c .before .before .before .row .ensures, ← c .before .ratio .ensures)
+returns-2 c = simp (c .before .before .before .before .if1 .left, ← c .before .before .before .ln-row .ensures, ← c .before .ratio .ensures)
 
 pub normal-spec : {M : Type 1} → statement M
 normal-spec =
@@ -44,7 +40,7 @@ normal-spec =
     returns
     float-to-bits-v
     add-v
-    row-requires
+    ln-row-requires
     cast-k
     int-to-float-k
     add-ratio

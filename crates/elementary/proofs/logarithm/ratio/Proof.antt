@@ -4,9 +4,6 @@ use Rattle.elementary.specs.Ln.{ratioOf}
 use borrow.Author.Needs.{needs}
 use Rattle.elementary.proofs.logarithm.ratio.Statement.{statement}
 use Rattle.elementary.proofs.logarithm.ratio.Tie as tie
-use Rattle.elementary.proofs.logarithm.ratio.Reads as reads
-use Rattle.elementary.proofs.logarithm.ratio.Lts as lts
-use Rattle.elementary.proofs.fma.lost.Reads as lost-reads
 
 float-from-bits-z : tie.Need-float-from-bits-z
 float-from-bits-z c = no-nan _ (omega arith)

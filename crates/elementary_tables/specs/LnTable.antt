@@ -1,6 +1,9 @@
 -- The tables of ln, by their bit patterns. Definitions only.
-use Prim.Native.Nat.{ℕ}
+use Prim.Native.Nat.{ℕ, min}
 use mathlib.Core.List.{List, [], _∷_}
+use lib.ListN.{getD}
+use Rattle.elementary_tables.specs.declared.ln_table.LnRow.{LnRow}
+use Rattle.float.specs.Ops.{bits}
 
 -- an inverse 1/c for each of the 128 parts of the numbers from 0.6875 to 1.375, c near the middle of its part
 abbrev pub inverses : List ℕ
@@ -145,3 +148,13 @@ logarithms =
     0x3fd0_0e6c_121f_b800 ∷ 0x3fd0_71b8_0e93_d000 ∷ 0x3fd0_d46b_9e86_7000 ∷ 0x3fd1_3687_334b_d000 ∷
     0x3fd1_980d_6723_4800 ∷ 0x3fd1_f8ff_e0cc_8000 ∷ 0x3fd2_595f_d763_6800 ∷ 0x3fd2_b930_0914_a800 ∷
     0x3fd3_1872_1043_6000 ∷ 0x3fd3_7726_6dec_1800 ∷ 0x3fd3_d54f_fbaf_3000 ∷ 0x3fd4_32ee_e32f_e000 ∷ []
+
+-- 1/c, the same in two parts, and ln c; from 127 on the last row
+unfoldable pub lnRowOf : ℕ → LnRow
+lnRowOf i =
+    record {
+      inverse = bits (getD inverses (min i 127) 0);
+      head = bits (getD inverseHeads (min i 127) 0);
+      tail = bits (getD inverseTails (min i 127) 0);
+      logarithm = bits (getD logarithms (min i 127) 0)
+    }

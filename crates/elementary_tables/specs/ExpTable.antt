@@ -1,6 +1,9 @@
 -- The two tables of exp, by their bit patterns. Definitions only.
-use Prim.Native.Nat.{ℕ}
+use Prim.Native.Nat.{ℕ, min}
 use mathlib.Core.List.{List, [], _∷_}
+use lib.ListN.{getD}
+use Rattle.elementary_tables.specs.declared.exp_table.ExpRow.{ExpRow}
+use Rattle.float.specs.Ops.{bits}
 
 -- 2^(j/128) for j from 0 to 127, rounded
 abbrev pub heads : List ℕ
@@ -73,3 +76,7 @@ tails =
     0xbc82_d521_07b4_3e1f ∷ 0xbc89_2ab9_3b47_0dc9 ∷ 0x3c74_b604_603a_88d3 ∷ 0x3c83_c5ec_519d_7271 ∷
     0xbc8f_f712_8fd3_91f0 ∷ 0xbc8d_ae98_e223_747d ∷ 0x3c8e_c3bc_41aa_2008 ∷ 0x3c84_2b94_c3a9_eb32 ∷
     0x3c8a_64a9_31d1_85ee ∷ 0xbc8e_37ba_e43b_e3ed ∷ 0x3c77_893b_4d91_cd9d ∷ 0x3c53_05c1_4160_cc89 ∷ []
+
+-- 2^(j/128) as a rounded head, and what the rounding left out, relative to it; from 127 on the last row
+unfoldable pub expRowOf : ℕ → ExpRow
+expRowOf j = record { head = bits (getD heads (min j 127) 0); tail = bits (getD tails (min j 127) 0) }
