@@ -15,6 +15,7 @@ const LARGEST: f64 = 1.7976931348623157e308;
 // Between these, the number before 0.9375 and 1.064697265625, the terms with k and c would only
 // cancel.
 const BELOW_ONE: f64 = 0.9374999999999999;
+
 const ABOVE_ONE: f64 = 1.064697265625;
 
 // ln 2 in two parts: the first has so few digits that its product with k is exact.

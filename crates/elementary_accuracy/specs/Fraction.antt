@@ -26,7 +26,7 @@ plus a b =
     record {
       above = a .above * b .under + b .above * a .under;
       below = a .below * b .under + b .below * a .under;
-      under = a .under * b .under
+      under = a .under * b .under;
     }
 
 abbrev pub minus : Fraction → Fraction → Fraction
@@ -37,7 +37,7 @@ times a b =
     record {
       above = a .above * b .above + a .below * b .below;
       below = a .above * b .below + a .below * b .above;
-      under = a .under * b .under
+      under = a .under * b .under;
     }
 
 unfoldable pub power : Fraction → ℕ → Fraction

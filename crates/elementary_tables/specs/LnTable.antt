@@ -156,5 +156,5 @@ lnRowOf i =
       inverse = bits (getD inverses (min i 127) 0);
       head = bits (getD inverseHeads (min i 127) 0);
       tail = bits (getD inverseTails (min i 127) 0);
-      logarithm = bits (getD logarithms (min i 127) 0)
+      logarithm = bits (getD logarithms (min i 127) 0);
     }

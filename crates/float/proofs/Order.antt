@@ -162,33 +162,44 @@ eq-numbers (fin s m e) nan h = no h
 eq-numbers (fin s m e) (inf t) h = no h
 eq-numbers (fin s m e) (fin t n d) h = (refl, refl)
 
--- ±a = ±b, and ±b is not below ±a
-level-below : (s : Bool) (a : ℕ) (t : Bool) (b : ℕ) → level s a t b ≡ true → below t b s a ≡ false
-level-below false a false b h = le-ltb b a (le-of-eq (eqb-true a b (both (eqb a b) _ h .0)))
-level-below false a true b h = le-ltb 0 (b + a) (omega (arith, eqb-true a b (both (eqb a b) _ h .0), eqb-true a 0 (both (eqb a b) _ h .1)))
-level-below true a false b h = refl
-level-below true a true b h = le-ltb a b (le-of-eq (sym (eqb-true a b (both (eqb a b) _ h .0))))
+-- ±a = ±b, and neither is below the other
+level-below : (s : Bool) (a : ℕ) (t : Bool) (b : ℕ) → level s a t b ≡ true → (below s a t b ≡ false) × (below t b s a ≡ false)
+level-below s a t b h = go s t (eqb-true a b (both (eqb a b) _ h .0)) (both (eqb a b) _ h .1)
+  where
+    go : (s t : Bool) → a ≡ b → (Bool·beq s t || eqb a 0) ≡ true → (below s a t b ≡ false) × (below t b s a ≡ false)
+    go false false e k = (le-ltb a b (omega arith), le-ltb b a (omega arith))
+    go false true e k = (refl, le-ltb 0 (b + a) (omega (arith, eqb-true a 0 k)))
+    go true false e k = (le-ltb 0 (a + b) (omega (arith, eqb-true a 0 k)), refl)
+    go true true e k = (le-ltb b a (omega arith), le-ltb a b (omega arith))
 
 -- of two equal values neither is below the other
-pub eq-not-lt : (x y : Float) → eq x y ≡ true → lt y x ≡ false
+pub eq-neither : (x y : Float) → eq x y ≡ true → (lt x y ≡ false) × (lt y x ≡ false)
 unfolding eq lt
-eq-not-lt nan y h = no h
-eq-not-lt (inf s) nan h = no h
-eq-not-lt (inf true) (inf true) h = refl
-eq-not-lt (inf true) (inf false) h = no h
-eq-not-lt (inf false) (inf true) h = no h
-eq-not-lt (inf false) (inf false) h = refl
-eq-not-lt (inf s) (fin t n d) h = no h
-eq-not-lt (fin s m e) nan h = no h
-eq-not-lt (fin s m e) (inf t) h = no h
-eq-not-lt (fin s m e) (fin t n d) h = level-below s (m * up e * down d) t (n * up d * down e) h
+eq-neither nan y h = no h
+eq-neither (inf s) nan h = no h
+eq-neither (inf true) (inf true) h = (refl, refl)
+eq-neither (inf true) (inf false) h = no h
+eq-neither (inf false) (inf true) h = no h
+eq-neither (inf false) (inf false) h = (refl, refl)
+eq-neither (inf s) (fin t n d) h = no h
+eq-neither (fin s m e) nan h = no h
+eq-neither (fin s m e) (inf t) h = no h
+eq-neither (fin s m e) (fin t n d) h = level-below s (m * up e * down d) t (n * up d * down e) h
 
 -- what is found below or equal is a number, on either side, and the other is not below it
 pub le-numbers : (x y : Float) → le x y ≡ true → (isNan x ≡ false) × (isNan y ≡ false)
 le-numbers x y h = ⊎-elim (lt-numbers x y) (eq-numbers x y) (le-or x y h)
 
 pub le-not-lt : (x y : Float) → le x y ≡ true → lt y x ≡ false
-le-not-lt x y h = ⊎-elim (lt-asym x y) (eq-not-lt x y) (le-or x y h)
+le-not-lt x y h = ⊎-elim (lt-asym x y) (λ e. eq-neither x y e .1) (le-or x y h)
+
+-- what is below is not equal, and the other is not below or equal to it
+pub lt-not-eq : (x y : Float) → lt x y ≡ true → (eq x y ≡ false) × (eq y x ≡ false)
+lt-not-eq x y h = (not-both (eq x y) (λ e. no (sym (eq-neither x y e .0) ∙ h)), not-both (eq y x) (λ e. no (sym (eq-neither y x e .1) ∙ h)))
+
+pub lt-not-le : (x y : Float) → lt x y ≡ true → le y x ≡ false
+unfolding le
+lt-not-le x y h = rw (lt-asym x y h, lt-not-eq x y h .1)
 
 -- ---- nothing is rounded to a NaN
 cond-number : (b : Bool) (x y : Float) → isNan x ≡ false → isNan y ≡ false → isNan (cond b x y) ≡ false

@@ -1,0 +1,52 @@
+# `make help` lists what can be made.
+
+# How many arguments of each range `make differential` compares.
+ARGUMENTS ?= 10000000
+
+# Where `make vectors` writes the stored list of the Rust's answers.
+VECTORS ?= crates/replay/stdin
+
+# Further words for `make bench`, as --markdown.
+BENCH ?=
+
+# What differential/run answers where the comparison can't be had.
+SKIPPED = 77
+
+# The library that is compared is the one that `rt` has just written.
+unexport EXPORTS_FOLDER
+
+.DEFAULT_GOAL := help
+.PHONY: help test check library differential vectors bench fmt clean
+
+help: ## list the targets
+	@sed -n 's/^\([a-z]*\):[^#]*## \(.*\)/\1\t\2/p' $(MAKEFILE_LIST) | expand -t 14
+
+# rt ci removes target/ first, so what the comparison built there is gone afterwards. It comes last:
+# where its line 'N passed, 0 failed' is printed, all before it held.
+test: ## everything: layout, comparison beside the Rust, then all proofs from nothing
+	rt fmt --check
+	@$(MAKE) --no-print-directory differential ARGUMENTS=1000000
+	rt ci
+
+check: ## prove what changed, and run the programs
+	rt check
+
+library: ## prove the crates and write target/staticlib/libexports.a, for C and Rust
+	rt staticlib exports
+
+differential: library ## compare with the Rust, bit for bit, where the Rust can be had
+	@differential/run elementary --arguments $(ARGUMENTS) || [ $$? -eq $(SKIPPED) ]
+
+vectors: library ## write the stored list of the Rust's answers anew (VECTORS=FILE)
+	differential/run vectors $(VECTORS)
+
+bench: library ## times, the Rust's beside ours (BENCH=--markdown)
+	@differential/run bench $(BENCH)
+
+fmt: ## lay out the Rattle, and the Rust where cargo can be had
+	rt fmt
+	cd differential && if cargo fmt --version >/dev/null 2>&1; \
+		then cargo fmt && rustfmt --edition 2024 oracle/accessors/*.rs; fi
+
+clean: ## remove what was built
+	rm -rf target

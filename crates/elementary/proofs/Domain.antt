@@ -1,0 +1,45 @@
+-- Where IEEE 754 has no logarithm: below 0 for ln, below -1 for ln(1 + x). Assumes nothing.
+use mathlib.Core.Path.{_≡_, refl}
+use mathlib.Core.Bool.{Bool, true, false, _&&_}
+use lib.Ieee.{Float, nan, lt, le, eq, neg, div, ofBits}
+use Rattle.float.specs.Ops.{_⊘_, bits, nought, one}
+use Rattle.float.specs.Methods.{betweenOf}
+use Rattle.float.proofs.Order.{lt-asym, lt-trans, lt-not-eq, lt-not-le}
+use Rattle.elementary.specs.Ln.{lnOf}
+use Rattle.elementary.specs.LnOnePlus.{numberOf, lnOnePlusOf}
+
+zero-by-zero : nought ⊘ nought ≡ nan
+unfolding div ofBits
+zero-by-zero = refl
+
+least-normal : lt nought (bits 0x0010_0000_0000_0000) ≡ true
+unfolding lt ofBits
+least-normal = refl
+
+-- ln of a negative number is NaN
+pub ln-negative : (x : Float) → lt x nought ≡ true → lnOf x ≡ nan
+unfolding lnOf
+ln-negative x h =
+    rw (lt-not-le x (bits 0x0010_0000_0000_0000) (lt-trans x nought _ h least-normal), lt-asym x nought h, lt-not-eq x nought h .0) zero-by-zero
+
+above-minus-one : lt (neg one) (neg (bits 0x3e20_0000_0000_0000)) ≡ true
+unfolding lt neg ofBits
+above-minus-one = refl
+
+and-false : (a : Bool) → (a && false) ≡ false
+and-false true = refl
+and-false false = refl
+
+nan-not-below : lt nan nought ≡ false
+unfolding lt
+nan-not-below = refl
+
+number-below : (x : Float) → lt x (neg one) ≡ true → numberOf x ≡ nan
+unfolding numberOf betweenOf
+number-below x h =
+    rw (lt-asym x _ (lt-trans x (neg one) (neg (bits 0x3e20_0000_0000_0000)) h above-minus-one), lt-asym x (neg one) h, lt-not-eq x (neg one) h .0) zero-by-zero
+
+-- ln(1 + x) is NaN for an x below -1
+pub ln-one-plus-below : (x : Float) → lt x (neg one) ≡ true → lnOnePlusOf x ≡ nan
+unfolding lnOnePlusOf
+ln-one-plus-below x h = rw (number-below x h, nan-not-below, and-false (le nought x))

@@ -1,0 +1,131 @@
+//! Times, ours beside the Rust's in one process.
+
+use std::hint::black_box;
+use std::time::Instant;
+
+use crate::environment;
+use crate::function::exports::{consensus_exp, consensus_exp_m1, consensus_ln, consensus_ln_1p};
+use crate::random::Random;
+use crate::table::Table;
+
+/// How many arguments one run goes through.
+const ARGUMENTS: usize = 1_000;
+
+/// How many times each run is made in a round, and how many rounds there are; the fastest run
+/// counts. The rounds lie apart, so that other work on the machine rarely slows down all of them.
+const RUNS: usize = 100;
+const ROUNDS: usize = 20;
+
+/// A line of the printed table: nanoseconds for one call.
+struct Line {
+    function: &'static str,
+    range: String,
+    measure: &'static str,
+    rust: f64,
+    ours: f64,
+}
+
+impl Line {
+    /// The better times of two rounds.
+    fn better(self, other: Self) -> Self {
+        Self { rust: self.rust.min(other.rust), ours: self.ours.min(other.ours), ..self }
+    }
+}
+
+/// Prints the table, in columns or as markdown.
+pub fn run(seed: u64, markdown: bool) {
+    let rounds = (0..ROUNDS).map(|_| round(seed));
+    let better = |best: Vec<Line>, round: Vec<Line>| {
+        best.into_iter().zip(round).map(|(a, b)| a.better(b)).collect()
+    };
+    let lines = rounds.reduce(better).unwrap_or_default();
+    println!(
+        "best of {} runs over {ARGUMENTS} arguments, {}",
+        RUNS * ROUNDS,
+        environment::c_library()
+    );
+    println!("ratio: the Rust's time over ours, above 1 where ours is less\n");
+    let table = table(&lines);
+    print!("{}", if markdown { table.markdown() } else { table.aligned() });
+}
+
+/// Every line, measured once.
+fn round(seed: u64) -> Vec<Line> {
+    let mut random = Random::new(seed);
+    let mut lines = Vec::new();
+    lines.extend(both("exp", (-30.0, 0.0), &mut random, f64::exp, |x| consensus_exp(x)));
+    lines.extend(both("ln", (0.0, 0.9), &mut random, f64::ln, |x| consensus_ln(x)));
+    for range in [(0.0, 0.4), (0.5, 1.0)] {
+        lines.extend(both("ln_1p", range, &mut random, f64::ln_1p, |x| consensus_ln_1p(x)));
+    }
+    for range in [(-0.34, 0.0), (-0.69, -0.35)] {
+        lines.extend(both("exp_m1", range, &mut random, f64::exp_m1, |x| consensus_exp_m1(x)));
+    }
+    lines
+}
+
+/// Throughput and latency of a function on arguments drawn from a range.
+fn both(
+    function: &'static str,
+    (low, high): (f64, f64),
+    random: &mut Random,
+    rust: impl Fn(f64) -> f64,
+    ours: impl Fn(f64) -> f64,
+) -> [Line; 2] {
+    let arguments: Vec<f64> = (0..ARGUMENTS).map(|_| random.between(low, high)).collect();
+    let line = |measure, (rust, ours)| Line {
+        function,
+        range: format!("{low} to {high}"),
+        measure,
+        rust,
+        ours,
+    };
+    let throughput = fastest(|| sum(&arguments, &rust), || sum(&arguments, &ours));
+    let latency = fastest(|| chain(&arguments, &rust), || chain(&arguments, &ours));
+    [line("throughput", throughput), line("latency", latency)]
+}
+
+/// Calls that do not wait for each other.
+fn sum(arguments: &[f64], function: impl Fn(f64) -> f64) -> f64 {
+    arguments.iter().map(|&x| function(x)).sum()
+}
+
+/// Calls of which each waits for the one before: its answer, times 0, goes into the argument. The
+/// product and the sum are part of the time, on both sides.
+fn chain(arguments: &[f64], function: impl Fn(f64) -> f64) -> f64 {
+    let zero = black_box(0.0);
+    arguments.iter().fold(0.0, |answer, &x| function(x + answer * zero))
+}
+
+/// Nanoseconds a call of the fastest run of each side, the sides taking turns.
+fn fastest(rust: impl Fn() -> f64, ours: impl Fn() -> f64) -> (f64, f64) {
+    let mut best = (f64::INFINITY, f64::INFINITY);
+    for _ in 0..RUNS {
+        best.0 = best.0.min(seconds(&rust));
+        best.1 = best.1.min(seconds(&ours));
+    }
+    let nanoseconds_a_call = 1e9 / ARGUMENTS as f64;
+    (best.0 * nanoseconds_a_call, best.1 * nanoseconds_a_call)
+}
+
+fn seconds(run: impl Fn() -> f64) -> f64 {
+    let start = Instant::now();
+    black_box(run());
+    start.elapsed().as_secs_f64()
+}
+
+fn table(lines: &[Line]) -> Table {
+    let mut table =
+        Table::new(&["function", "range", "measure", "Rust, ns", "ours, ns", "ratio"], 3);
+    for line in lines {
+        table.row(vec![
+            line.function.to_owned(),
+            line.range.clone(),
+            line.measure.to_owned(),
+            format!("{:.1}", line.rust),
+            format!("{:.1}", line.ours),
+            format!("{:.2}", line.rust / line.ours),
+        ]);
+    }
+    table
+}

@@ -1,0 +1,105 @@
+//! Runs the Rust and the proved library on the same inputs and compares the answers.
+
+use std::path::PathBuf;
+use std::process::ExitCode;
+use std::{env, io};
+
+mod arguments;
+mod bench;
+mod difference;
+mod elementary;
+mod environment;
+mod function;
+mod random;
+mod recorded;
+mod table;
+mod vectors;
+
+const USAGE: &str = "\
+usage: compare elementary [--arguments N] [--seed N]   the four elementary functions, bit for bit
+       compare vectors FILE [--seed N]                 write the stored list of the Rust's answers
+       compare bench [--markdown] [--seed N]           times, the Rust's beside ours
+The seed is also taken from the variable DIFFERENTIAL_SEED.";
+
+/// How many arguments of each range are compared, and the seed, where nothing else is asked.
+const ARGUMENTS: u64 = 1_000_000;
+const SEED: u64 = 1;
+
+/// What is to be done.
+enum Command {
+    Elementary,
+    Vectors(PathBuf),
+    Bench,
+}
+
+/// A command line, taken apart.
+struct Request {
+    command: Command,
+    arguments: u64,
+    seed: u64,
+    markdown: bool,
+}
+
+impl Request {
+    fn read(mut line: impl Iterator<Item = String>) -> Result<Self, String> {
+        let mut seed = env::var("DIFFERENTIAL_SEED").map_or(Ok(SEED), |text| number(Some(text)))?;
+        let mut arguments = ARGUMENTS;
+        let mut markdown = false;
+        let mut words = Vec::new();
+        while let Some(word) = line.next() {
+            match word.as_str() {
+                "--arguments" => arguments = number(line.next())?,
+                "--seed" => seed = number(line.next())?,
+                "--markdown" => markdown = true,
+                option if option.starts_with('-') => return Err(format!("no option {option}")),
+                _ => words.push(word),
+            }
+        }
+        Ok(Self { command: command(&words)?, arguments, seed, markdown })
+    }
+
+    /// Does what is asked, and says whether all is as demanded.
+    fn run(&self) -> io::Result<bool> {
+        match &self.command {
+            Command::Elementary => elementary::run(self.arguments, self.seed),
+            Command::Vectors(file) => vectors::write(file, self.seed),
+            Command::Bench => {
+                bench::run(self.seed, self.markdown);
+                Ok(true)
+            }
+        }
+    }
+}
+
+fn command(words: &[String]) -> Result<Command, String> {
+    let words: Vec<&str> = words.iter().map(String::as_str).collect();
+    match words[..] {
+        ["elementary"] => Ok(Command::Elementary),
+        ["vectors", file] => Ok(Command::Vectors(file.into())),
+        ["bench"] => Ok(Command::Bench),
+        _ => Err("no such command".to_owned()),
+    }
+}
+
+fn number(text: Option<String>) -> Result<u64, String> {
+    let text = text.ok_or("a number is missing")?;
+    text.parse().map_err(|_| format!("{text} is no number"))
+}
+
+fn main() -> ExitCode {
+    let request = match Request::read(env::args().skip(1)) {
+        Ok(request) => request,
+        Err(problem) => {
+            eprintln!("compare: {problem}\n{USAGE}");
+            return ExitCode::from(2);
+        }
+    };
+    match request.run() {
+        Ok(true) => ExitCode::SUCCESS,
+        Ok(false) => ExitCode::FAILURE,
+        Err(error) => {
+            eprintln!("compare: {error}");
+            ExitCode::from(2)
+        }
+    }
+}
