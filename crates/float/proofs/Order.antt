@@ -3,14 +3,15 @@ use mathlib.Core.Path.{_≡_, refl, sym, ap, _∙_}
 use mathlib.Core.Bool.{Bool, true, false, not, _&&_, _||_, Bool·beq, Bool·not-not, cond, true≢false, false≢true}
 use mathlib.Core.Logic.{_⊎_, inl, inr, ⊎-elim}
 use Prim.Native.Nat.{ℕ, zero, suc, _+_, _-_, _*_, _^_, _<_}
-use native.Mathlib.Nat.{le-of-eq, le-of-lt, lt-of-lt-of-le, lt-of-le-of-lt, mul-right-comm, mul-le-mul-right, mul-lt-mul-of-pos-right, lt-of-mul-lt-mul-right, mul-pos, zero-mul}
+use native.Mathlib.Nat.{le-of-eq, le-of-lt, lt-of-lt-of-le, lt-of-le-of-lt, mul-right-comm, mul-le-mul-right, mul-lt-mul-of-pos-right, lt-of-mul-lt-mul-right, mul-pos, zero-mul, add-comm}
 use native.Mathlib.Omega.{arith}
 use lib.Dec.{T, ltb, eqb, eqb·suc-zero}
-use lib.Ieee.{Float, nan, inf, fin, Format, prec, emax, low, binary64, unlike, up, down, odd, units, round, sum, add, mul, below, level, lt, eq, le, ne, isNan, ofBits}
+use lib.IntN.{ℤ}
+use lib.Ieee.{Float, nan, inf, fin, Format, prec, emax, low, binary64, unlike, up, down, odd, units, round, neg, sum, add, mul, below, level, lt, eq, le, ne, isNan, ofBits}
 use lib.Ieee.Fits.{down-pos, round-is}
 use lib.Ieee.Positive.{first-pos}
 use lib.Ieee.Scale.{finite}
-use borrow.Author.Tests.{ltb-true, lt-ltb, le-ltb, eq-eqb, eqb-true}
+use borrow.Author.Tests.{ltb-true, ltb-false, lt-ltb, le-ltb, eq-eqb, eqb-true}
 use Rattle.float.specs.Ops.{_⊕_, _⊗_, nought}
 
 -- a test that cannot have passed
@@ -18,7 +19,7 @@ no : {A : Type 0} → false ≡ true → A
 no h = absurd (false≢true h)
 
 -- both tests have passed
-both : (a b : Bool) → (a && b) ≡ true → (a ≡ true) × (b ≡ true)
+pub both : (a b : Bool) → (a && b) ≡ true → (a ≡ true) × (b ≡ true)
 both true b h = (refl, h)
 both false b h = no h
 
@@ -48,7 +49,7 @@ nan-alone (fin s m e) h = no (sym (ne-self (fin s m e)) ∙ h)
 
 -- ---- below
 -- nothing is below -infinity, and nothing above +infinity
-none-below : (x : Float) → lt x (inf true) ≡ false
+pub none-below : (x : Float) → lt x (inf true) ≡ false
 unfolding lt
 none-below nan = refl
 none-below (inf true) = refl
@@ -201,28 +202,91 @@ pub lt-not-le : (x y : Float) → lt x y ≡ true → le y x ≡ false
 unfolding le
 lt-not-le x y h = rw (lt-asym x y h, lt-not-eq x y h .1)
 
--- ---- nothing is rounded to a NaN
-cond-number : (b : Bool) (x y : Float) → isNan x ≡ false → isNan y ≡ false → isNan (cond b x y) ≡ false
-cond-number true x y h k = h
-cond-number false x y h k = k
+-- ±a and ±b, neither of them below the other
+below-level : (s : Bool) (a : ℕ) (t : Bool) (b : ℕ) → below s a t b ≡ false → below t b s a ≡ false → level t b s a ≡ true
+below-level false a false b h k = rw (eq-eqb b a (omega (arith, ltb-false a b h, ltb-false b a k)))
+below-level false a true b h k =
+    let z = ltb-false 0 (b + a) k in
+    rw (eq-eqb b a (omega arith), eq-eqb b 0 (omega arith))
+below-level true a false b h k =
+    let z = ltb-false 0 (a + b) h in
+    rw (eq-eqb b a (omega arith), eq-eqb b 0 (omega arith))
+below-level true a true b h k = rw (eq-eqb b a (omega (arith, ltb-false b a h, ltb-false a b k)))
 
-odd-number : (d : ℕ) (s : Bool) (q k l : ℕ) → isNan (odd d s q k l) ≡ false
-unfolding odd isNan
-odd-number d s zero k l = refl
-odd-number d s (suc q) k l = refl
+-- one test has passed, or then the other
+or-else : (a b : Bool) → (a ≡ false → b ≡ true) → (a || b) ≡ true
+or-else true b f = refl
+or-else false b f = f refl
 
-units-number : (f : Format) (s : Bool) (q k : ℕ) → isNan (units f s q k) ≡ false
-unfolding units isNan
-units-number f s q k = cond-number (ltb (q * 2 ^ k) (2 ^ (low f + suc (emax f)))) _ (inf s) (odd-number (suc (prec f)) s q k (low f)) refl
+-- of two numbers, where the one is not below the other, the other is below or equal
+pub not-lt-le : (x y : Float) → isNan x ≡ false → isNan y ≡ false → lt x y ≡ false → le y x ≡ true
+unfolding lt le isNan
+not-lt-le nan y p q h = absurd (true≢false p)
+not-lt-le (inf s) nan p q h = absurd (true≢false q)
+not-lt-le (inf true) (inf true) p q h = refl
+not-lt-le (inf true) (inf false) p q h = absurd (true≢false h)
+not-lt-le (inf false) (inf true) p q h = refl
+not-lt-le (inf false) (inf false) p q h = refl
+not-lt-le (inf s) (fin t n d) p q h = rw h
+not-lt-le (fin s m e) nan p q h = absurd (true≢false q)
+not-lt-le (fin s m e) (inf true) p q h = refl
+not-lt-le (fin s m e) (inf false) p q h = absurd (true≢false h)
+not-lt-le (fin s m e) (fin t n d) p q h =
+    or-else (lt (fin t n d) (fin s m e)) _ (below-level s (m * up e * down d) t (n * up d * down e) h)
 
-round-number : (f : Format) (s : Bool) (a c : ℕ) → isNan (round f s a c) ≡ false
-round-number f s a c = rw (round-is f s a c) (units-number f s _ _)
+-- ---- negated values are in the opposite order
+below-neg : (s : Bool) (a : ℕ) (t : Bool) (b : ℕ) → below (not s) a (not t) b ≡ below t b s a
+below-neg false a false b = refl
+below-neg false a true b = rw (add-comm a b)
+below-neg true a false b = refl
+below-neg true a true b = refl
 
-sum-number : (f : Format) (s : Bool) (a : ℕ) (t : Bool) (b c : ℕ) → isNan (sum f s a t b c) ≡ false
+pub lt-neg : (x y : Float) → lt (neg x) (neg y) ≡ lt y x
+unfolding lt neg
+lt-neg nan nan = refl
+lt-neg nan (inf t) = refl
+lt-neg nan (fin t n d) = refl
+lt-neg (inf s) nan = refl
+lt-neg (inf true) (inf true) = refl
+lt-neg (inf true) (inf false) = refl
+lt-neg (inf false) (inf true) = refl
+lt-neg (inf false) (inf false) = refl
+lt-neg (inf s) (fin t n d) = refl
+lt-neg (fin s m e) nan = refl
+lt-neg (fin s m e) (inf t) = Bool·not-not t
+lt-neg (fin s m e) (fin t n d) = below-neg s (m * up e * down d) t (n * up d * down e)
+
+-- ---- what is rounded is a finite value or an infinity, with the sign that it was given
+cond-has : (P : Float → Type 0) (b : Bool) (x y : Float) → P x → P y → P (cond b x y)
+cond-has P true x y h k = h
+cond-has P false x y h k = k
+
+module _ (P : Float → Type 0) (s : Bool) (h : (n : ℕ) (d : ℤ) → P (fin s n d)) (k : P (inf s)) where
+  odd-has : (d q j l : ℕ) → P (odd d s q j l)
+  unfolding odd
+  odd-has d zero j l = h _ _
+  odd-has d (suc q) j l = h _ _
+
+  units-has : (f : Format) (q j : ℕ) → P (units f s q j)
+  unfolding units
+  units-has f q j = cond-has P (ltb (q * 2 ^ j) (2 ^ (low f + suc (emax f)))) _ (inf s) (odd-has (suc (prec f)) q j (low f)) k
+
+  pub round-has : (f : Format) (a c : ℕ) → P (round f s a c)
+  round-has f a c = rw (round-is f s a c) (units-has f _ _)
+
+-- so nothing is rounded to a NaN
+abbrev Number : Float → Type 0
+Number x = isNan x ≡ false
+
+round-number : (f : Format) (s : Bool) (a c : ℕ) → Number (round f s a c)
+unfolding isNan
+round-number f s a c = round-has Number s (λ n d. refl) refl f a c
+
+sum-number : (f : Format) (s : Bool) (a : ℕ) (t : Bool) (b c : ℕ) → Number (sum f s a t b c)
 unfolding sum
 sum-number f s a t b c =
-    cond-number (Bool·beq s t) _ _ (round-number f s (a + b) c)
-    (cond-number (ltb a b) _ _ (round-number f t (b - a) c) (round-number f (s && ltb b a) (a - b) c))
+    cond-has Number (Bool·beq s t) _ _ (round-number f s (a + b) c)
+    (cond-has Number (ltb a b) _ _ (round-number f t (b - a) c) (round-number f (s && ltb b a) (a - b) c))
 
 -- a number with a finite one added is a number
 pub not-nan-add : (x c : Float) → T (finite c) → isNan x ≡ false → isNan (x ⊕ c) ≡ false

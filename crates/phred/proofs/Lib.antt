@@ -1,0 +1,4 @@
+pub mod Folds
+pub mod Start
+pub mod Corners
+pub mod Levels

@@ -1,0 +1,16 @@
+-- `phred_to_ln_error_prob`: the same operations in the same order. Assumes nothing.
+use mathlib.Core.Path.{refl}
+use Rattle.phred.specs.Phred.{phredToLnErrorProb}
+use borrow.Author.Needs.{needs}
+use Rattle.phred.proofs.phred_to_ln_error_prob.Statement.{statement}
+use Rattle.phred.proofs.phred_to_ln_error_prob.Tie as tie
+
+int-to-float-t2 : tie.Need-int-to-float-t2
+int-to-float-t2 c = search needs
+
+returns : tie.Need-returns
+unfolding phredToLnErrorProb
+returns c = refl
+
+pub phred-to-ln-error-prob-spec : {M : Type 1} → statement M
+phred-to-ln-error-prob-spec = tie.close (tie.spec int-to-float-t2 returns)

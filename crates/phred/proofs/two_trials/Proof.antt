@@ -1,0 +1,22 @@
+-- `two_trials`: each way through the code is a way of the definition. Assumes nothing.
+use Rattle.phred.specs.Phred.{twoTrials}
+use borrow.Author.Needs.{needs}
+use Rattle.phred.proofs.two_trials.Statement.{statement}
+use Rattle.phred.proofs.two_trials.Tie as tie
+
+returns : tie.Need-returns
+unfolding twoTrials
+returns c = rw (c .if1 .taken)
+
+ln-sum-exp-requires : tie.Need-ln-sum-exp-requires
+ln-sum-exp-requires c κs = search needs
+
+ln-a-minus-b-requires : tie.Need-ln-a-minus-b-requires
+ln-a-minus-b-requires c κs = search needs
+
+returns-2 : tie.Need-returns-2
+unfolding twoTrials
+returns-2 c = rw (c .before .before .if1 .left, ← c .before .ln-sum-exp .ensures) (c .ln-a-minus-b .ensures)
+
+pub two-trials-spec : {M : Type 1} → statement M
+two-trials-spec = tie.close (tie.spec returns ln-sum-exp-requires ln-a-minus-b-requires returns-2)

@@ -1,0 +1,2 @@
+pub mod Phred
+pub mod Corners

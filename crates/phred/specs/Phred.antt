@@ -1,0 +1,162 @@
+-- Phred levels and natural logarithms of probabilities: what each function of phred.rs gives, in its order. A level is a whole number, a logarithm
+-- an f64. Definitions only.
+use Prim.Native.Nat.{ℕ, suc, _+_, min, max}
+use mathlib.Core.Bool.{Bool, true, _&&_}
+use mathlib.Core.List.{List, [], _∷_, _++_}
+use lib.ListN.{getD, take, drop}
+use lib.Ieee.{Float, nan, lt, le, eq, neg, isNan}
+use Rattle.float.specs.Ops.{_⊕_, _⊖_, _⊗_, _⊘_, bits, whole, nought, one, infinite, if_then_else_}
+use Rattle.float.specs.Methods.{absOf, floorOf}
+use Rattle.elementary.specs.Exp.{expOf}
+use Rattle.elementary.specs.ExpMinusOne.{expMinusOneOf}
+use Rattle.elementary.specs.Ln.{lnOf}
+use Rattle.elementary.specs.LnOnePlus.{lnOnePlusOf}
+use Rattle.phred.specs.declared.Lowest.{Lowest}
+
+-- ln 10, rounded
+abbrev pub ln10 : Float
+ln10 = bits 0x4002_6bb1_bbb5_5516
+
+-- 10
+abbrev pub ten : Float
+ten = bits 0x4024_0000_0000_0000
+
+-- ln 2, rounded
+abbrev pub lnTwo : Float
+lnTwo = bits 0x3fe6_2e42_fefa_39ef
+
+-- what lnSumExp adds where both operands are equal
+abbrev pub log1pexpZero : Float
+log1pexpZero = lnTwo
+
+-- ln(4/3), rounded
+abbrev pub lnFourThirds : Float
+lnFourThirds = bits 0x3fd2_6962_1134_db92
+
+-- the logarithm of 0: -infinity
+abbrev pub lnZero : Float
+lnZero = neg one ⊘ nought
+
+-- the least and the highest level of a call
+abbrev pub minPhred : ℕ
+minPhred = 2
+
+abbrev pub maxPhred : ℕ
+maxPhred = 93
+
+-- the logarithm of the error at a level: -q · ln 10 / 10
+unfoldable pub phredToLnErrorProb : ℕ → Float
+phredToLnErrorProb q = neg (whole q) ⊗ ln10 ⊘ ten
+
+-- ln(1 - exp x), by equation (7): near 0 from exp(x) - 1, further below from ln(1 + v)
+unfoldable pub lnOneMinusExp : Float → Float
+lnOneMinusExp x =
+    if le nought x then lnZero
+    else if le (neg lnTwo) x then lnOf (neg (expMinusOneOf x))
+    else lnOnePlusOf (neg (expOf x))
+
+-- the logarithm of being right at a level
+unfoldable pub phredToLnCorrectProb : ℕ → Float
+phredToLnCorrectProb q = lnOneMinusExp (phredToLnErrorProb q)
+
+-- a whole number, held to the levels of a call
+abbrev pub held : ℕ → ℕ
+held n = max minPhred (min maxPhred n)
+
+-- the logarithm of the error at level 93: -93 · ln 10 / 10, rounded
+abbrev pub maxPhredAsLnError : Float
+maxPhredAsLnError = bits 0xc035_69fe_9d69_32ea
+
+-- The level of an error's logarithm, fgbio's rule: 93 where it is below that of level 93, 2 at NaN, and else the floor of -10 · p / ln 10 + 0.001,
+-- held to 2 .. 93.
+unfoldable pub lnProbToPhred : Float → ℕ
+lnProbToPhred p =
+    if lt p maxPhredAsLnError then maxPhred
+    else if isNan p then minPhred
+    else held (floorOf (neg ten ⊗ p ⊘ ln10 ⊕ bits 0x3f50_624d_d2f1_a9fc))
+
+-- ln(1 + exp x), by equation (10): up to -37 exp x, up to 18 by ln(1 + v), up to 33.3 x + exp(-x), and above x
+unfoldable pub log1pexpOf : Float → Float
+log1pexpOf x =
+    if le x (neg (bits 0x4042_8000_0000_0000)) then expOf x
+    else if le x (bits 0x4032_0000_0000_0000) then lnOnePlusOf (expOf x)
+    else if le x (bits 0x4040_a666_6666_6666) then x ⊕ expOf (neg x)
+    else x
+
+-- ln(exp a - exp b): a where exp b is 0, -infinity where the two are within 2^-52, and NaN where b is the larger
+unfoldable pub lnAMinusB : Float → Float → Float
+lnAMinusB a b =
+    if eq b lnZero then a
+    else if lt (absOf (a ⊖ b)) (bits 0x3cb0_0000_0000_0000) then lnZero
+    else if lt a b then nought ⊘ nought
+    else a ⊕ lnOneMinusExp (b ⊖ a)
+
+-- ln(exp a + exp b) where neither exponential is 0: from the smaller of the two, a where they are equal
+unfoldable pub lnSumExpGeneral : Float → Float → Float
+lnSumExpGeneral a b =
+    if lt b a then b ⊕ log1pexpOf (a ⊖ b)
+    else a ⊕ log1pexpOf (b ⊖ a)
+
+-- ln(exp a + exp b): an exponential that is 0 adds nothing, and where the two are equal ln 2 is added
+unfoldable pub lnSumExp : Float → Float → Float
+lnSumExp a b =
+    if eq a lnZero then b
+    else if eq b lnZero then a
+    else if eq a b then a ⊕ log1pexpZero
+    else lnSumExpGeneral a b
+
+-- The logarithm of x + y - 4/3 · x · y, an error in either of two trials, of the logarithms of x and y, the larger first: that one where it is 6 or more
+-- above the other, and else ln(exp(ln(x + y)) - exp(ln(4/3 · x · y))).
+unfoldable pub twoTrials : Float → Float → Float
+twoTrials larger smaller =
+    if le (bits 0x4018_0000_0000_0000) (larger ⊖ smaller) then larger
+    else lnAMinusB (lnSumExp larger smaller) (lnFourThirds ⊕ larger ⊕ smaller)
+
+-- the same in either order
+unfoldable pub lnErrorProbTwoTrials : Float → Float → Float
+lnErrorProbTwoTrials p q =
+    if lt p q then twoTrials q p
+    else twoTrials p q
+
+-- every lane is -infinity, as of none
+unfoldable pub allLnZero : List Float → Bool
+allLnZero [] = true
+allLnZero (x ∷ xs) = eq x lnZero && allLnZero xs
+
+-- the lowest lane after one more, whose place is i
+unfoldable pub lowerOf : Lowest → ℕ → Float → Lowest
+lowerOf l i x =
+    if lt x (l .value) then record { place = i; value = x }
+    else l
+
+-- the lowest lane after those from place i on
+unfoldable pub lowestFrom : Lowest → ℕ → List Float → Lowest
+lowestFrom l i [] = l
+lowestFrom l i (x ∷ xs) = lowestFrom (lowerOf l i x) (suc i) xs
+
+-- the lane that a sum starts from: the lowest, the first of several, and lane 0 if none is below +infinity
+unfoldable pub startLane : List Float → Lowest
+startLane xs = lowestFrom (record { place = 0; value = infinite }) 0 xs
+
+-- ln(exp x + exp y + ..), folded in the list's order
+unfoldable pub sums : Float → List Float → Float
+sums x [] = x
+sums x (y ∷ ys) = sums (lnSumExp x y) ys
+
+-- the lane k with the others folded in, in lane order
+unfoldable pub sumFrom : List Float → ℕ → Float
+sumFrom xs k = sums (getD xs k nan) (take k xs ++ drop (k + 1) xs)
+
+-- the logarithm of the sum of all exponentials: -infinity if every lane is, and else from the start lane
+unfoldable pub lnSumExpArray : List Float → Float
+lnSumExpArray xs =
+    if allLnZero xs then lnZero
+    else sumFrom xs (startLane xs .place)
+
+-- the logarithm of a quotient
+unfoldable pub lnNormalize : Float → Float → Float
+lnNormalize v n = v ⊖ n
+
+-- the logarithm of the complement
+unfoldable pub lnNot : Float → Float
+lnNot x = lnOneMinusExp x

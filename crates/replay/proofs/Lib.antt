@@ -1,0 +1,5 @@
+pub mod Digits
+pub mod Patterns
+pub mod Letters
+pub mod Bounds
+pub mod Examples
