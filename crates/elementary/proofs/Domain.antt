@@ -1,10 +1,11 @@
 -- Where IEEE 754 has no logarithm: below 0 for ln, below -1 for ln(1 + x). Assumes nothing.
 use mathlib.Core.Path.{_≡_, refl}
-use mathlib.Core.Bool.{Bool, true, false, _&&_}
+use mathlib.Core.Bool.{true}
 use lib.Ieee.{Float, nan, lt, le, eq, neg, div, ofBits}
 use Rattle.float.specs.Ops.{_⊘_, bits, nought, one}
 use Rattle.float.specs.Methods.{betweenOf}
-use Rattle.float.proofs.Order.{lt-asym, lt-trans, lt-not-eq, lt-not-le}
+use Rattle.float.proofs.Cases.{and-false}
+use Rattle.float.proofs.Order.{nan-not-lt, lt-asym, lt-trans, lt-not-eq, lt-not-le}
 use Rattle.elementary.specs.Ln.{lnOf}
 use Rattle.elementary.specs.LnOnePlus.{numberOf, lnOnePlusOf}
 
@@ -26,14 +27,6 @@ above-minus-one : lt (neg one) (neg (bits 0x3e20_0000_0000_0000)) ≡ true
 unfolding lt neg ofBits
 above-minus-one = refl
 
-and-false : (a : Bool) → (a && false) ≡ false
-and-false true = refl
-and-false false = refl
-
-nan-not-below : lt nan nought ≡ false
-unfolding lt
-nan-not-below = refl
-
 number-below : (x : Float) → lt x (neg one) ≡ true → numberOf x ≡ nan
 unfolding numberOf betweenOf
 number-below x h =
@@ -42,4 +35,4 @@ number-below x h =
 -- ln(1 + x) is NaN for an x below -1
 pub ln-one-plus-below : (x : Float) → lt x (neg one) ≡ true → lnOnePlusOf x ≡ nan
 unfolding lnOnePlusOf
-ln-one-plus-below x h = rw (number-below x h, nan-not-below, and-false (le nought x))
+ln-one-plus-below x h = rw (number-below x h, nan-not-lt nought, and-false (le nought x))

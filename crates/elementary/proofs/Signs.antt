@@ -4,18 +4,14 @@ use mathlib.Core.Path.{_≡_, refl, sym, _∙_}
 use mathlib.Core.Bool.{Bool, true, false, _&&_}
 use lib.Ieee.{Float, nan, lt, le, eq, ne, isNan, div, ofBits}
 use Rattle.float.specs.Ops.{nought, infinite, if_then_else_}
-use Rattle.float.proofs.Order.{ne-self, nan-alone, le-numbers, le-not-lt}
+use Rattle.float.proofs.Cases.{test, choice}
+use Rattle.float.proofs.Order.{ne-self, nan-alone, nan-not-lt, le-numbers, le-not-lt}
 use Rattle.elementary.specs.Exp.{from0Of, stepsOf, nearOf, highest, lowest, expOf}
 use Rattle.elementary.specs.LnOnePlus.{numberOf, lnOnePlusOf}
 
 -- 0 or more, and so no NaN
 abbrev From0 : Float → Type 0
 From0 y = le nought y ≡ true
-
--- a choice between two such values is one; what the test shows may be used
-either : (b : Bool) (x y : Float) → (b ≡ true → From0 x) → (b ≡ false → From0 y) → From0 (if b then x else y)
-either true x y h k = h refl
-either false x y h k = k refl
 
 zero-from-0 : From0 nought
 unfolding le ofBits
@@ -27,34 +23,26 @@ infinite-from-0 = refl
 
 from-0 : (y : Float) → From0 (from0Of y)
 unfolding from0Of
-from-0 y = either (le nought y) y nought (λ t. t) (λ t. zero-from-0)
+from-0 y = choice From0 (le nought y) y nought (λ t. t) (λ t. zero-from-0)
 
 near-from-0 : (x : Float) → From0 (nearOf x)
 unfolding nearOf
-near-from-0 x = either (ne (stepsOf x) (stepsOf x)) nought _ (λ t. zero-from-0) (λ t. from-0 _)
+near-from-0 x = choice From0 (ne (stepsOf x) (stepsOf x)) nought _ (λ t. zero-from-0) (λ t. from-0 _)
 
 -- the exponential of a number is 0 or more
 pub exp-from-0 : (x : Float) → ne x x ≡ false → le nought (expOf x) ≡ true
 unfolding expOf
-exp-from-0 x n = rw n (either (lt highest x) infinite _ (λ t. infinite-from-0) (λ t. either (lt x lowest) nought (nearOf x) (λ u. zero-from-0) (λ u. near-from-0 x)))
+exp-from-0 x n = rw n (choice From0 (lt highest x) infinite _ (λ t. infinite-from-0) (λ t. choice From0 (lt x lowest) nought (nearOf x) (λ u. zero-from-0) (λ u. near-from-0 x)))
 
 exp-of-nan : (x : Float) → ne x x ≡ true → expOf x ≡ x
 unfolding expOf
 exp-of-nan x n = rw n
 
-test : (b : Bool) {A : Type 0} → (b ≡ true → A) → (b ≡ false → A) → A
-test true h k = h refl
-test false h k = k refl
-
-nan-not-below : lt nan nought ≡ false
-unfolding lt
-nan-not-below = refl
-
 -- no argument gives an exp below 0
 pub exp-not-below : (x : Float) → lt (expOf x) nought ≡ false
 exp-not-below x =
     test (ne x x)
-    (λ n. rw (exp-of-nan x n, nan-alone x n) nan-not-below)
+    (λ n. rw (exp-of-nan x n, nan-alone x n) (nan-not-lt nought))
     (λ n. le-not-lt nought (expOf x) (exp-from-0 x n))
 
 -- exp is NaN at NaN, and nowhere else

@@ -1,3 +1,4 @@
+pub mod Cases
 pub mod Order
 pub mod Patterns
 pub mod Finite

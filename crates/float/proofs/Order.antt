@@ -2,8 +2,8 @@
 use mathlib.Core.Path.{_≡_, refl, sym, ap, _∙_}
 use mathlib.Core.Bool.{Bool, true, false, not, _&&_, _||_, Bool·beq, Bool·not-not, cond, true≢false, false≢true}
 use mathlib.Core.Logic.{_⊎_, inl, inr, ⊎-elim}
-use Prim.Native.Nat.{ℕ, zero, suc, _+_, _-_, _*_, _^_, _<_}
-use native.Mathlib.Nat.{le-of-eq, le-of-lt, lt-of-lt-of-le, lt-of-le-of-lt, mul-right-comm, mul-le-mul-right, mul-lt-mul-of-pos-right, lt-of-mul-lt-mul-right, mul-pos, zero-mul, add-comm}
+use Prim.Native.Nat.{ℕ, zero, suc, _+_, _-_, _*_, _^_, _≤_, _<_}
+use native.Mathlib.Nat.{le-trans, le-of-eq, le-of-lt, lt-of-lt-of-le, lt-of-le-of-lt, mul-right-comm, mul-le-mul-right, mul-lt-mul-of-pos-right, lt-of-mul-lt-mul-right, mul-pos, zero-mul, add-comm, eq-of-mul-eq-mul-right, eq-zero-or-pos}
 use native.Mathlib.Omega.{arith}
 use lib.Dec.{T, ltb, eqb, eqb·suc-zero}
 use lib.IntN.{ℤ}
@@ -12,16 +12,12 @@ use lib.Ieee.Fits.{down-pos, round-is}
 use lib.Ieee.Positive.{first-pos}
 use lib.Ieee.Scale.{finite}
 use borrow.Author.Tests.{ltb-true, ltb-false, lt-ltb, le-ltb, eq-eqb, eqb-true}
+use Rattle.float.proofs.Cases.{test, clash, refuted, both}
 use Rattle.float.specs.Ops.{_⊕_, _⊗_, nought}
 
 -- a test that cannot have passed
 no : {A : Type 0} → false ≡ true → A
 no h = absurd (false≢true h)
-
--- both tests have passed
-pub both : (a b : Bool) → (a && b) ≡ true → (a ≡ true) × (b ≡ true)
-both true b h = (refl, h)
-both false b h = no h
 
 -- ---- a value and itself
 beq-self : (s : Bool) → Bool·beq s s ≡ true
@@ -48,6 +44,11 @@ nan-alone (inf s) h = no (sym (ne-self (inf s)) ∙ h)
 nan-alone (fin s m e) h = no (sym (ne-self (fin s m e)) ∙ h)
 
 -- ---- below
+-- a NaN is below nothing
+pub nan-not-lt : (x : Float) → lt nan x ≡ false
+unfolding lt
+nan-not-lt x = refl
+
 -- nothing is below -infinity, and nothing above +infinity
 pub none-below : (x : Float) → lt x (inf true) ≡ false
 unfolding lt
@@ -79,22 +80,30 @@ lt-asym nan (fin t n d) h = refl
 lt-asym (inf s) (fin t n d) h = ap not h
 lt-asym (fin s m e) (fin t n d) h = below-asym s (m * up e * down d) t (n * up d * down e) h
 
-not-both : (b : Bool) → (b ≡ true → b ≡ false) → b ≡ false
-not-both true f = f refl
-not-both false f = refl
-
 -- nothing is below itself
 pub lt-irrefl : (x : Float) → lt x x ≡ false
-lt-irrefl x = not-both (lt x x) (lt-asym x x)
+lt-irrefl x = test (lt x x) (lt-asym x x) (λ t. t)
+
+-- a / p ≤ b / q < c / r, and a / p < b / q ≤ c / r
+through-left : (a p b q c r : ℕ) → 0 < p → a * q ≤ b * p → b * r < c * q → a * r < c * p
+through-left a p b q c r P h k =
+    lt-of-mul-lt-mul-right q
+    (lt-of-le-of-lt (le-of-eq (mul-right-comm a r q))
+    (lt-of-le-of-lt (mul-le-mul-right r h)
+    (lt-of-le-of-lt (le-of-eq (mul-right-comm b p r))
+    (lt-of-lt-of-le (mul-lt-mul-of-pos-right k P) (le-of-eq (mul-right-comm c q p))))))
+
+through-right : (a p b q c r : ℕ) → 0 < r → a * q < b * p → b * r ≤ c * q → a * r < c * p
+through-right a p b q c r R h k =
+    lt-of-mul-lt-mul-right q
+    (lt-of-le-of-lt (le-of-eq (mul-right-comm a r q))
+    (lt-of-lt-of-le (mul-lt-mul-of-pos-right h R)
+    (le-trans (le-of-eq (mul-right-comm b p r))
+    (le-trans (mul-le-mul-right p k) (le-of-eq (mul-right-comm c q p))))))
 
 -- a / p < b / q < c / r
 strict : (a p b q c r : ℕ) → 0 < p → a * q < b * p → b * r < c * q → a * r < c * p
-strict a p b q c r P h k =
-    lt-of-mul-lt-mul-right q
-    (lt-of-le-of-lt (le-of-eq (mul-right-comm a r q))
-    (lt-of-le-of-lt (mul-le-mul-right r (le-of-lt h))
-    (lt-of-le-of-lt (le-of-eq (mul-right-comm b p r))
-    (lt-of-lt-of-le (mul-lt-mul-of-pos-right k P) (le-of-eq (mul-right-comm c q p))))))
+strict a p b q c r P h k = through-left a p b q c r P (le-of-lt h) k
 
 -- a product above something has a first factor above 0
 some : (a b c : ℕ) → a < b * c → 0 < b
@@ -147,6 +156,11 @@ pub le-or : (x y : Float) → le x y ≡ true → (lt x y ≡ true) ⊎ (eq x y 
 unfolding le
 le-or x y h = either (lt x y) (eq x y) h
 
+-- what is below is below or equal
+pub lt-le : (x y : Float) → lt x y ≡ true → le x y ≡ true
+unfolding le
+lt-le x y h = rw h
+
 -- all but NaN are at most themselves
 pub le-self : (x : Float) → le x x ≡ not (isNan x)
 unfolding le
@@ -196,7 +210,7 @@ le-not-lt x y h = ⊎-elim (lt-asym x y) (λ e. eq-neither x y e .1) (le-or x y 
 
 -- what is below is not equal, and the other is not below or equal to it
 pub lt-not-eq : (x y : Float) → lt x y ≡ true → (eq x y ≡ false) × (eq y x ≡ false)
-lt-not-eq x y h = (not-both (eq x y) (λ e. no (sym (eq-neither x y e .0) ∙ h)), not-both (eq y x) (λ e. no (sym (eq-neither y x e .1) ∙ h)))
+lt-not-eq x y h = (refuted (eq x y) (λ e. clash (eq-neither x y e .0) h), refuted (eq y x) (λ e. clash (eq-neither y x e .1) h))
 
 pub lt-not-le : (x y : Float) → lt x y ≡ true → le y x ≡ false
 unfolding le
@@ -233,6 +247,55 @@ not-lt-le (fin s m e) (inf true) p q h = refl
 not-lt-le (fin s m e) (inf false) p q h = absurd (true≢false h)
 not-lt-le (fin s m e) (fin t n d) p q h =
     or-else (lt (fin t n d) (fin s m e)) _ (below-level s (m * up e * down d) t (n * up d * down e) h)
+
+-- ±a / p = ±b / q < ±c / r, each over the other's denominator
+module _ (a p b q c r : ℕ) (P : 0 < p) (Q : 0 < q) (R : 0 < r) (e : a * q ≡ b * p) where
+  same-zero : a * q ≡ 0 → (a ≡ 0) × (b ≡ 0)
+  same-zero z = (eq-of-mul-eq-mul-right q Q a 0 (z ∙ sym (zero-mul q)), eq-of-mul-eq-mul-right p P b 0 (sym e ∙ z ∙ sym (zero-mul p)))
+
+  -- where the numerators are 0, signs do not matter
+  zero-none : (t : Bool) → b ≡ 0 → below t (b * r) true (c * q) ≡ false
+  zero-none true z = rw (z, zero-mul r) (le-ltb (c * q) 0 (omega arith))
+  zero-none false z = refl
+
+  zero-above : (t : Bool) → b ≡ 0 → below t (b * r) false (c * q) ≡ true → 0 < c * q
+  zero-above true z h = let w : b * r ≡ 0 = ap (λ (n : ℕ). n * r) z ∙ zero-mul r in omega (arith, ltb-true 0 (b * r + c * q) h)
+  zero-above false z h = omega (arith, ltb-true (b * r) (c * q) h)
+
+  zero-then : (s : Bool) → a ≡ 0 → 0 < c * p → below s (a * r) false (c * p) ≡ true
+  zero-then true z h = lt-ltb 0 (a * r + c * p) (omega arith)
+  zero-then false z h = rw (z, zero-mul r) (lt-ltb 0 (c * p) h)
+
+  zero-below : (s t u : Bool) → (a ≡ 0) × (b ≡ 0) → below t (b * r) u (c * q) ≡ true → below s (a * r) u (c * p) ≡ true
+  zero-below s t true z k = no (sym (zero-none t (z .1)) ∙ k)
+  zero-below s t false z k = zero-then s (z .0) (mul-pos (some 0 c q (zero-above t (z .1) k)) P)
+
+  level-then-below : (s t u : Bool) → (Bool·beq s t || eqb (a * q) 0) ≡ true → below t (b * r) u (c * q) ≡ true → below s (a * r) u (c * p) ≡ true
+  level-then-below false false false w k = lt-ltb (a * r) (c * p) (through-left a p b q c r P (le-of-eq e) (ltb-true (b * r) (c * q) k))
+  level-then-below false false true w k = no k
+  level-then-below false true u w k = zero-below false true u (same-zero (eqb-true (a * q) 0 w)) k
+  level-then-below true false u w k = zero-below true false u (same-zero (eqb-true (a * q) 0 w)) k
+  level-then-below true true true w k = lt-ltb (c * p) (a * r) (through-right c r b q a p P (ltb-true (c * q) (b * r) k) (le-of-eq (sym e)))
+  level-then-below true true false w k =
+      ⊎-elim (λ z. zero-below true true false (same-zero z) k) (λ h. lt-ltb 0 (a * r + c * p) (omega (arith, mul-pos (some 0 a q h) R))) (eq-zero-or-pos (a * q))
+
+-- what is equal to something below is below
+pub eq-lt : (x y z : Float) → eq x y ≡ true → lt y z ≡ true → lt x z ≡ true
+unfolding eq lt
+eq-lt nan y z h k = no h
+eq-lt (inf s) nan z h k = no h
+eq-lt (inf true) (inf true) z h k = k
+eq-lt (inf true) (inf false) z h k = no h
+eq-lt (inf false) (inf true) z h k = no h
+eq-lt (inf false) (inf false) z h k = k
+eq-lt (inf s) (fin t n d) z h k = no h
+eq-lt (fin s m e) nan z h k = no h
+eq-lt (fin s m e) (inf t) z h k = no h
+eq-lt (fin s m e) (fin t n d) nan h k = no k
+eq-lt (fin s m e) (fin t n d) (inf u) h k = k
+eq-lt (fin s m e) (fin t n d) (fin u o g) h k =
+    let w = both (eqb (m * up e * down d) (n * up d * down e)) _ h in
+    level-then-below (m * up e) (down e) (n * up d) (down d) (o * up g) (down g) (down-pos e) (down-pos d) (down-pos g) (eqb-true _ _ (w .0)) s t u (w .1) k
 
 -- ---- negated values are in the opposite order
 below-neg : (s : Bool) (a : ℕ) (t : Bool) (b : ℕ) → below (not s) a (not t) b ≡ below t b s a

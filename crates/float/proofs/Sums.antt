@@ -18,8 +18,9 @@ use lib.Ieee.Order.{round-mono}
 use lib.Ieee.Scale.{round-same, finite}
 use borrow.Author.Tests.{ltb-false, le-ltb, eqb-true}
 use Rattle.float.specs.Ops.{_⊕_, _⊖_, nought, infinite}
+use Rattle.float.proofs.Cases.{both}
 use Rattle.float.proofs.Finite.{round-zero}
-use Rattle.float.proofs.Order.{both, none-below, le-not-lt, le-numbers, not-lt-le, lt-neg, round-has, not-nan-add}
+use Rattle.float.proofs.Order.{none-below, le-not-lt, le-numbers, not-lt-le, lt-neg, round-has, not-nan-add}
 
 -- ---- a value that the format holds is rounded to itself
 -- `fits` is four tests: the last three

@@ -1,4 +1,6 @@
 pub mod Folds
 pub mod Start
+pub mod Infinity
 pub mod Corners
+pub mod ShortWay
 pub mod Levels

@@ -1,40 +1,126 @@
--- The lane that a sum starts from: it is one of the lanes, none is below it, none before it is equal to it, and it is lane 0 if none is below +infinity.
--- Assumes nothing.
+-- The lane that a sum starts from is the one that document 01 names, and one of the lanes. Assumes nothing.
 use mathlib.Core.Path.{_≡_, refl, sym, ap, _∙_, subst}
-use mathlib.Core.Bool.{Bool, true, false, _&&_, true≢false}
-use mathlib.Core.Logic.{_⊎_, inl, inr}
+use mathlib.Core.Bool.{Bool, true, false, true≢false}
+use mathlib.Core.Logic.{_⊎_, inl, inr, ⊎-elim}
 use mathlib.Core.List.{List, [], _∷_}
-use Prim.Native.Nat.{ℕ, zero, suc, _+_, _≤_, _<_}
+use Prim.Native.Nat.{ℕ, suc, _+_, _≤_, _<_}
+use native.Mathlib.Nat.{not-suc-le-zero, le-of-suc-le-suc, eq-or-lt-of-le, zero-add}
 use native.Mathlib.Omega.{arith}
-use lib.ListN.{length, getD}
-use lib.Ieee.{Float, nan, lt, eq}
+use lib.Dec.{ltb}
+use lib.ListN.{length, getD, List·getD-eq-default}
+use borrow.Author.Tests.{ltb-true, ltb-false}
+use lib.Ieee.{Float, nan, inf, fin, lt, eq, div, ofBits}
 use Rattle.float.specs.Ops.{infinite, if_then_else_}
+use Rattle.float.proofs.Cases.{clash, refuted}
+use Rattle.float.proofs.Order.{nan-not-lt, lt-trans, lt-irrefl, eq-lt}
 use Rattle.phred.specs.declared.Lowest.{Lowest}
 use Rattle.phred.specs.Phred.{allLnZero, lowerOf, lowestFrom, startLane}
+use Rattle.phred.specs.Start.{Starts}
 
--- either the lane was lower and took over, or all is as it was
+-- what is below something is below +infinity
+below-infinity : (x y : Float) → lt x y ≡ true → lt x infinite ≡ true
+unfolding lt div ofBits
+below-infinity nan y h = h
+below-infinity (inf true) y h = refl
+below-infinity (inf false) nan h = h
+below-infinity (inf false) (inf t) h = h
+below-infinity (inf false) (fin t n d) h = h
+below-infinity (fin s m e) y h = refl
+
+-- a lane that is lower takes over, and else all stays
 lower-case : (l : Lowest) (i : ℕ) (x : Float)
     → ((lt x (l .value) ≡ true) × (lowerOf l i x ≡ record { place = i; value = x })) ⊎ ((lt x (l .value) ≡ false) × (lowerOf l i x ≡ l))
 unfolding lowerOf
-lower-case l i x = go (lt x (l .value)) refl
+lower-case l i x = go (lt x (l .value))
   where
-    go : (b : Bool) → lt x (l .value) ≡ b
-        → ((b ≡ true) × ((if b then record { place = i; value = x } else l) ≡ record { place = i; value = x })) ⊎ ((b ≡ false) × ((if b then record { place = i; value = x } else l) ≡ l))
-    go true e = inl (refl, refl)
-    go false e = inr (refl, refl)
+    go : (b : Bool) → ((b ≡ true) × ((if b then record { place = i; value = x } else l) ≡ record { place = i; value = x })) ⊎ ((b ≡ false) × ((if b then record { place = i; value = x } else l) ≡ l))
+    go true = inl (refl, refl)
+    go false = inr (refl, refl)
 
--- a place below n stays below it
-place-inside : (n : ℕ) (l : Lowest) (i : ℕ) (xs : List Float) → l .place < n → i + length xs ≤ n → lowestFrom l i xs .place < n
-unfolding lowestFrom
-place-inside n l i [] p h = p
-place-inside n l i (x ∷ xs) p h =
-    elim (lower-case l i x) [
-      | inl w ↦ place-inside n (lowerOf l i x) (suc i) xs (rw (w .1) (omega arith)) (omega arith)
-      | inr w ↦ place-inside n (lowerOf l i x) (suc i) xs (rw (w .1) p) (omega arith)
-    ]
+-- the lanes are g 0, g 1 and so on
+module _ (g : ℕ → Float) where
+  -- l is one of the first i lanes, below +infinity, and the first of its value
+  abbrev Found : Lowest → ℕ → Type 0
+  Found l i = (l .place < i) × (l .value ≡ g (l .place)) × (lt (l .value) infinite ≡ true) × ((j : ℕ) → j < l .place → eq (g j) (l .value) ≡ false)
+
+  -- what is known of the lowest of the first i lanes
+  record Seen (l : Lowest) (i : ℕ) : Type 0 where
+    none : (j : ℕ) → j < i → lt (g j) (l .value) ≡ false
+    found : ((l .value ≡ infinite) × (l .place ≡ 0)) ⊎ Found l i
+
+  under-infinity : (l : Lowest) (i : ℕ) (x : Float) → Seen l i → lt x (l .value) ≡ true → lt x infinite ≡ true
+  under-infinity l i x s h = below-infinity x (l .value) h
+
+  last : (i : ℕ) (P : ℕ → Type 0) → ((j : ℕ) → j < i → P j) → P i → (j : ℕ) → j < suc i → P j
+  last i P h p j k = ⊎-elim (λ e. subst P (sym e) p) (λ w. h j w) (eq-or-lt-of-le (le-of-suc-le-suc k))
+
+  take-over : (l : Lowest) (i : ℕ) → Seen l i → lt (g i) (l .value) ≡ true → Seen (record { place = i; value = g i }) (suc i)
+  take-over l i s h =
+      record {
+        none = last i (λ j. lt (g j) (g i) ≡ false) (λ j k. refuted (lt (g j) (g i)) (λ t. clash (s .none j k) (lt-trans (g j) (g i) (l .value) t h))) (lt-irrefl (g i));
+        found = inr (omega arith, refl, under-infinity l i (g i) s h, λ j k. refuted (eq (g j) (g i)) (λ t. clash (s .none j k) (eq-lt (g j) (g i) (l .value) t h)))
+      }
+
+  stay : (l : Lowest) (i : ℕ) → Seen l i → lt (g i) (l .value) ≡ false → Seen l (suc i)
+  stay l i s h =
+      record {
+        none = last i (λ j. lt (g j) (l .value) ≡ false) (s .none) h;
+        found = ⊎-elim (λ w. inl w) (λ w. inr (omega (arith, w .0), w .1, w .2, w .3)) (s .found)
+      }
+
+  walk : (xs : List Float) (l : Lowest) (i : ℕ) → ((k : ℕ) → getD xs k nan ≡ g (i + k)) → Seen l i → Seen (lowestFrom l i xs) (i + length xs)
+  unfolding lowestFrom
+  walk [] l i h s = let e : i ≡ i + 0 = omega arith in subst (λ (n : ℕ). Seen l n) e s
+  walk (x ∷ xs) l i h s =
+      let e : suc i + length xs ≡ i + suc (length xs) = omega arith in
+      let e0 : i + 0 ≡ i = omega arith in
+      let x-is : x ≡ g i = h 0 ∙ ap g e0 in
+      let after : (k : ℕ) → getD xs k nan ≡ g (suc i + k) = λ k. h (suc k) ∙ ap g (shift i k) in
+      subst (λ (n : ℕ). Seen (lowestFrom (lowerOf l i x) (suc i) xs) n) e
+      (walk xs (lowerOf l i x) (suc i) after
+      (⊎-elim
+      (λ w. rw (w .1, x-is) (take-over l i s (sym (ap (λ y. lt y (l .value)) x-is) ∙ w .0)))
+      (λ w. rw (w .1) (stay l i s (sym (ap (λ y. lt y (l .value)) x-is) ∙ w .0)))
+      (lower-case l i x)))
+    where
+      shift : (i k : ℕ) → i + suc k ≡ suc i + k
+      shift i k = omega arith
+
+-- before the first lane
+nothing-seen : (g : ℕ → Float) → Seen g (record { place = 0; value = infinite }) 0
+nothing-seen g = record { none = λ j k. absurd (not-suc-le-zero k); found = inl (refl, refl) }
+
+-- a place is past a length, or before it
+place : (j n : ℕ) → (n ≤ j) ⊎ (j < n)
+place j n = go (ltb j n) refl
+  where
+    go : (b : Bool) → ltb j n ≡ b → (n ≤ j) ⊎ (j < n)
+    go true e = inr (ltb-true j n e)
+    go false e = inl (ltb-false j n e)
+
+module _ (xs : List Float) where
+  lane : ℕ → Float
+  lane j = getD xs j nan
+
+  seen : Seen lane (startLane xs) (length xs)
+  unfolding startLane lane
+  seen = let e : 0 + length xs ≡ length xs = omega arith in subst (λ (n : ℕ). Seen lane (startLane xs) n) e (walk lane xs _ 0 (λ k. ap lane (sym (zero-add k))) (nothing-seen lane))
+
+  none-below : (j : ℕ) → lt (lane j) (startLane xs .value) ≡ false
+  unfolding lane
+  none-below j = ⊎-elim (λ h. rw (List·getD-eq-default xs nan h) (nan-not-lt _)) (λ h. seen .none j h) (place j (length xs))
+
+  pub starts : Starts xs (startLane xs .place)
+  unfolding lane
+  starts =
+      record {
+        lowest = λ j. ⊎-elim (λ w. refuted (lt (lane j) (lane (startLane xs .place))) (λ t. clash (rw (w .0) at none-below j) (below-infinity (lane j) (lane (startLane xs .place)) t))) (λ w. rw (← w .1) (none-below j)) (seen .found);
+        first = λ j k. ⊎-elim (λ w. absurd (not-suc-le-zero (rw (w .1) at k))) (λ w. rw (← w .1) (w .3 j k)) (seen .found);
+        lane-0 = λ h. ⊎-elim (λ w. w .1) (λ w. clash (h (startLane xs .place)) (rw (w .1) at w .2)) (seen .found)
+      }
 
 -- where not every lane is -infinity the start is one of them
 pub start-inside : (xs : List Float) → allLnZero xs ≡ false → startLane xs .place < length xs
-unfolding allLnZero startLane
+unfolding allLnZero
 start-inside [] h = absurd (true≢false h)
-start-inside (x ∷ xs) h = place-inside (length (x ∷ xs)) _ 0 (x ∷ xs) (omega arith) (omega arith)
+start-inside (x ∷ xs) h = ⊎-elim (λ w. rw (w .1) (omega arith)) (λ w. w .0) (seen (x ∷ xs) .found)

@@ -1,2 +1,3 @@
 pub mod Phred
 pub mod Corners
+pub mod Start
