@@ -1,0 +1,62 @@
+-- `error_table`: the places passed hold what the rule says. Assumes nothing.
+use native.Mathlib.Nat.{not-suc-le-zero}
+use mathlib.Core.Path.{_≡_, refl}
+use Prim.Native.Nat.{_-_, _≤_}
+use native.Mathlib.Omega.{arith}
+use borrow.Author.Needs.{needs}
+use lib.ListN.{length, length-set}
+use Rattle.rate_tables.proofs.Filled.{Filled, filled-more, filled-all}
+use Rattle.rate_tables.specs.Adjusted.{errorPerAltAt}
+use Rattle.rate_tables.proofs.adjusted.error_table.Statement.{statement}
+use Rattle.rate_tables.proofs.adjusted.error_table.Tie as tie
+
+abbrev Inv-loop : tie.InvT-loop
+Inv-loop post table₀ q₀ table q = (length table ≡ 94) × (q ≤ 94) × Filled (errorPerAltAt post) table q
+
+abbrev μ-loop : tie.MeasureT-loop
+μ-loop post table₀ q₀ table q = 94 - q
+
+loop-holds : tie.Need-loop-holds Inv-loop μ-loop
+loop-holds c = (refl, omega arith, (λ k h. absurd (not-suc-le-zero h)))
+
+cast-at : tie.Need-cast-at Inv-loop μ-loop
+cast-at c = search needs
+
+error-per-alt-at-requires : tie.Need-error-per-alt-at-requires Inv-loop μ-loop
+error-per-alt-at-requires c κs = search needs
+
+mul-table : tie.Need-mul-table Inv-loop μ-loop
+mul-table c = search needs
+
+array-write-table : tie.Need-array-write-table Inv-loop μ-loop
+array-write-table c = search needs
+
+add-q : tie.Need-add-q Inv-loop μ-loop
+add-q c = omega arith
+
+loop-less : tie.Need-loop-less Inv-loop μ-loop
+loop-less c = omega arith
+
+loop-again : tie.Need-loop-again Inv-loop μ-loop
+loop-again c = 
+    let l = c .before .before .loop in
+    (simp length-set (l .inv .0), omega arith, filled-more _ (l .table) (l .q) (c .error-per-alt-at .result) (omega arith) (c .error-per-alt-at .ensures) (l .inv .2))
+
+returns : tie.Need-returns Inv-loop μ-loop
+returns c = let l = c .before .loop in filled-all _ (l .table) 94 (l .q) (l .inv .0) (c .loop-test .left) (l .inv .2)
+
+pub error-table-spec : {M : Type 1} → statement M
+error-table-spec =
+    tie.close
+    (tie.spec
+    Inv-loop
+    μ-loop
+    loop-holds
+    cast-at
+    error-per-alt-at-requires
+    mul-table
+    array-write-table
+    add-q
+    loop-less
+    loop-again
+    returns)

@@ -1,0 +1,4 @@
+pub mod Tables
+pub mod Adjusted
+pub mod Thresholds
+pub mod Gaps
