@@ -297,6 +297,12 @@ eq-lt (fin s m e) (fin t n d) (fin u o g) h k =
     let w = both (eqb (m * up e * down d) (n * up d * down e)) _ h in
     level-then-below (m * up e) (down e) (n * up d) (down d) (o * up g) (down g) (down-pos e) (down-pos d) (down-pos g) (eqb-true _ _ (w .0)) s t u (w .1) k
 
+-- below or equal to what is below or equal
+pub le-le : (x y z : Float) → le x y ≡ true → le y z ≡ true → le x z ≡ true
+le-le x y z h k =
+    not-lt-le z x (le-numbers y z k .1) (le-numbers x y h .0)
+    (refuted (lt z x) (λ l. clash (le-not-lt x y h) (⊎-elim (λ u. lt-trans y z x u l) (λ u. eq-lt y z x u l) (le-or y z k))))
+
 -- ---- negated values are in the opposite order
 below-neg : (s : Bool) (a : ℕ) (t : Bool) (b : ℕ) → below (not s) a (not t) b ≡ below t b s a
 below-neg false a false b = refl

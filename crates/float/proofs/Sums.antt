@@ -62,7 +62,7 @@ module _ (f : Format) where
       rw (v .0, div-same (n * up d * 2 ^ low f) (down d) (m * up e * 2 ^ low f) (down e) (down-pos d) (down-pos e) q)
 
   -- so its fraction rounded is the value itself, over any denominator
-  round-held : (s : Bool) (m : ℕ) (e : ℤ) (k : ℕ) → 0 < k → T (fits f (fin s m e)) → round f s (m * up e * k) (down e * k) ≡ fin s m e
+  pub round-held : (s : Bool) (m : ℕ) (e : ℤ) (k : ℕ) → 0 < k → T (fits f (fin s m e)) → round f s (m * up e * k) (down e * k) ≡ fin s m e
   round-held s m e k K h =
       let r = round f s (m * up e) (down e) in
       round-same f s (m * up e * k) (down e * k) (m * up e) (down e) (mul-pos (down-pos e) K) (down-pos e) (rw (mul-right-comm (m * up e) k, mul-assoc (m * up e)))

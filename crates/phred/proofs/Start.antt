@@ -58,14 +58,14 @@ module _ (g : ℕ → Float) where
   take-over l i s h =
       record {
         none = last i (λ j. lt (g j) (g i) ≡ false) (λ j k. refuted (lt (g j) (g i)) (λ t. clash (s .none j k) (lt-trans (g j) (g i) (l .value) t h))) (lt-irrefl (g i));
-        found = inr (omega arith, refl, under-infinity l i (g i) s h, λ j k. refuted (eq (g j) (g i)) (λ t. clash (s .none j k) (eq-lt (g j) (g i) (l .value) t h)))
+        found = inr (omega arith, refl, under-infinity l i (g i) s h, λ j k. refuted (eq (g j) (g i)) (λ t. clash (s .none j k) (eq-lt (g j) (g i) (l .value) t h)));
       }
 
   stay : (l : Lowest) (i : ℕ) → Seen l i → lt (g i) (l .value) ≡ false → Seen l (suc i)
   stay l i s h =
       record {
         none = last i (λ j. lt (g j) (l .value) ≡ false) (s .none) h;
-        found = ⊎-elim (λ w. inl w) (λ w. inr (omega (arith, w .0), w .1, w .2, w .3)) (s .found)
+        found = ⊎-elim (λ w. inl w) (λ w. inr (omega (arith, w .0), w .1, w .2, w .3)) (s .found);
       }
 
   walk : (xs : List Float) (l : Lowest) (i : ℕ) → ((k : ℕ) → getD xs k nan ≡ g (i + k)) → Seen l i → Seen (lowestFrom l i xs) (i + length xs)
@@ -116,7 +116,7 @@ module _ (xs : List Float) where
       record {
         lowest = λ j. ⊎-elim (λ w. refuted (lt (lane j) (lane (startLane xs .place))) (λ t. clash (rw (w .0) at none-below j) (below-infinity (lane j) (lane (startLane xs .place)) t))) (λ w. rw (← w .1) (none-below j)) (seen .found);
         first = λ j k. ⊎-elim (λ w. absurd (not-suc-le-zero (rw (w .1) at k))) (λ w. rw (← w .1) (w .3 j k)) (seen .found);
-        lane-0 = λ h. ⊎-elim (λ w. w .1) (λ w. clash (h (startLane xs .place)) (rw (w .1) at w .2)) (seen .found)
+        lane-0 = λ h. ⊎-elim (λ w. w .1) (λ w. clash (h (startLane xs .place)) (rw (w .1) at w .2)) (seen .found);
       }
 
 -- where not every lane is -infinity the start is one of them

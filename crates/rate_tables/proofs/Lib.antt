@@ -1,1 +1,4 @@
 pub mod Filled
+pub mod Middle
+pub mod Promised
+pub mod Demand3

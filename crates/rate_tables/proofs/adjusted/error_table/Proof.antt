@@ -38,7 +38,7 @@ loop-less : tie.Need-loop-less Inv-loop μ-loop
 loop-less c = omega arith
 
 loop-again : tie.Need-loop-again Inv-loop μ-loop
-loop-again c = 
+loop-again c =
     let l = c .before .before .loop in
     (simp length-set (l .inv .0), omega arith, filled-more _ (l .table) (l .q) (c .error-per-alt-at .result) (omega arith) (c .error-per-alt-at .ensures) (l .inv .2))
 

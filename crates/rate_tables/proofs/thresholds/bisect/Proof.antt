@@ -30,12 +30,12 @@ loop-less c = omega arith
 
 loop-again : tie.Need-loop-again Inv-loop μ-loop
 unfolding halvings
-loop-again c = 
+loop-again c =
     let l = c .before .before .loop in
     (omega arith, rw (add-one (l .i)) (c .halve .ensures ∙ ap (halved (reaches (unanimousQualityFromGap (c .before .before .before .args .pre .0)) (c .before .before .before .args .level))) (l .inv .1)))
 
 returns : tie.Need-returns Inv-loop μ-loop
-returns c = 
+returns c =
     let l = c .before .loop in
     let i : l .i ≡ 64 = omega arith in
     ap (λ (e : Ends). e .high) (l .inv .1 ∙ ap (halvings (reaches (unanimousQualityFromGap (c .before .before .args .pre .0)) (c .before .before .args .level))) i)

@@ -2,7 +2,6 @@
 use Rattle.rate_tables.specs.Adjusted.{adjustedTables}
 use borrow.Author.Needs.{needs}
 use Rattle.rate_tables.proofs.adjusted.AdjustedProbabilityTables.compute.Statement.{
-
   statement,
 }
 use Rattle.rate_tables.proofs.adjusted.AdjustedProbabilityTables.compute.Tie as tie
