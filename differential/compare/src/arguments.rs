@@ -45,11 +45,12 @@ fn by_exponent(random: &mut Random, low: f64, high: f64) -> f64 {
 }
 
 /// A number some places above or below, near ones as likely as far ones.
-fn beside(random: &mut Random, number: f64) -> f64 {
+pub fn beside(random: &mut Random, number: f64) -> f64 {
     let reach = 1_u64 << random.below(45);
     let places = random.below(reach);
     let bits = number.to_bits();
-    f64::from_bits(if random.below(2) == 0 { bits + places } else { bits - places })
+    let up = random.below(2) == 0;
+    f64::from_bits(if up { bits.wrapping_add(places) } else { bits.wrapping_sub(places) })
 }
 
 /// Values that a definition must name one by one; each stands for its negative, too.
@@ -91,11 +92,11 @@ pub fn limits_and_neighbours() -> Vec<f64> {
     LIMITS.into_iter().chain(neighbours).flat_map(both_signs).collect()
 }
 
-fn neighbours(x: f64) -> [f64; 2] {
+pub fn neighbours(x: f64) -> [f64; 2] {
     [x.next_down(), x.next_up()]
 }
 
-fn both_signs(x: f64) -> [f64; 2] {
+pub fn both_signs(x: f64) -> [f64; 2] {
     [x, -x]
 }
 

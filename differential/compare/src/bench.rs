@@ -4,7 +4,7 @@ use std::hint::black_box;
 use std::time::Instant;
 
 use crate::environment;
-use crate::function::exports::{consensus_exp, consensus_exp_m1, consensus_ln, consensus_ln_1p};
+use crate::exports::{consensus_exp, consensus_exp_m1, consensus_ln, consensus_ln_1p};
 use crate::random::Random;
 use crate::table::Table;
 
@@ -116,7 +116,7 @@ fn seconds(run: impl Fn() -> f64) -> f64 {
 
 fn table(lines: &[Line]) -> Table {
     let mut table =
-        Table::new(&["function", "range", "measure", "Rust, ns", "ours, ns", "ratio"], 3);
+        Table::new(&["function", "range", "measure", "Rust, ns", "ours, ns", "ratio"], 3..6);
     for line in lines {
         table.row(vec![
             line.function.to_owned(),

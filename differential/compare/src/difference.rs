@@ -16,6 +16,16 @@ fn place(x: f64) -> u64 {
     if x.is_sign_negative() { !bits } else { bits | 1 << 63 }
 }
 
+/// The bit pattern, and the same one for every NaN, since a NaN's own says nothing.
+pub fn stored_bits(x: f64) -> u64 {
+    if x.is_nan() { 0x7ff8_0000_0000_0000 } else { x.to_bits() }
+}
+
+/// A difference as text; there is no number for one between a number and NaN.
+pub fn in_words(ulps: u64) -> String {
+    if ulps == u64::MAX { "NaN".to_owned() } else { ulps.to_string() }
+}
+
 /// An argument and what both sides answer.
 #[derive(Clone, Copy)]
 pub struct Answers {

@@ -3,7 +3,7 @@
 use std::io;
 
 use crate::arguments::{neighbours_of_special_values, ranges, special_values};
-use crate::difference::{Answers, Tally};
+use crate::difference::{Answers, Tally, in_words};
 use crate::environment;
 use crate::function::{FUNCTIONS, Function};
 use crate::random::Random;
@@ -83,7 +83,7 @@ fn table(lines: &[Line]) -> Table {
         "the Rust's",
         "",
     ];
-    let mut table = Table::new(&head, 2);
+    let mut table = Table::new(&head, 2..9);
     for line in lines {
         let tally = &line.tally;
         let example = |part: fn(Answers) -> f64| {
@@ -94,7 +94,7 @@ fn table(lines: &[Line]) -> Table {
             line.arguments.to_owned(),
             tally.compared.to_string(),
             tally.differing.to_string(),
-            ulps(tally.largest()),
+            in_words(tally.largest()),
             line.allowed.to_string(),
             example(|it| it.argument),
             example(|it| it.ours),
@@ -103,9 +103,4 @@ fn table(lines: &[Line]) -> Table {
         ]);
     }
     table
-}
-
-/// A difference as text; there is no number for one between a number and NaN.
-fn ulps(difference: u64) -> String {
-    if difference == u64::MAX { "NaN".to_owned() } else { difference.to_string() }
 }

@@ -3,16 +3,7 @@
 use std::hint::black_box;
 
 use crate::difference::Answers;
-
-/// What the static library `exports` defines.
-pub mod exports {
-    unsafe extern "C" {
-        pub safe fn consensus_exp(x: f64) -> f64;
-        pub safe fn consensus_ln(x: f64) -> f64;
-        pub safe fn consensus_ln_1p(x: f64) -> f64;
-        pub safe fn consensus_exp_m1(x: f64) -> f64;
-    }
-}
+use crate::exports;
 
 /// A function as both sides have it.
 pub struct Function {

@@ -9,7 +9,9 @@ mod bench;
 mod difference;
 mod elementary;
 mod environment;
+mod exports;
 mod function;
+mod phred;
 mod random;
 mod recorded;
 mod table;
@@ -17,6 +19,7 @@ mod vectors;
 
 const USAGE: &str = "\
 usage: compare elementary [--arguments N] [--seed N]   the four elementary functions, bit for bit
+       compare phred [--arguments N] [--seed N]        the functions of phred.rs, bit for bit
        compare vectors FILE [--seed N]                 write the stored list of the Rust's answers
        compare bench [--markdown] [--seed N]           times, the Rust's beside ours
 The seed is also taken from the variable DIFFERENTIAL_SEED.";
@@ -28,6 +31,7 @@ const SEED: u64 = 1;
 /// What is to be done.
 enum Command {
     Elementary,
+    Phred,
     Vectors(PathBuf),
     Bench,
 }
@@ -62,6 +66,7 @@ impl Request {
     fn run(&self) -> io::Result<bool> {
         match &self.command {
             Command::Elementary => elementary::run(self.arguments, self.seed),
+            Command::Phred => Ok(phred::run(self.arguments, self.seed)),
             Command::Vectors(file) => vectors::write(file, self.seed),
             Command::Bench => {
                 bench::run(self.seed, self.markdown);
@@ -75,6 +80,7 @@ fn command(words: &[String]) -> Result<Command, String> {
     let words: Vec<&str> = words.iter().map(String::as_str).collect();
     match words[..] {
         ["elementary"] => Ok(Command::Elementary),
+        ["phred"] => Ok(Command::Phred),
         ["vectors", file] => Ok(Command::Vectors(file.into())),
         ["bench"] => Ok(Command::Bench),
         _ => Err("no such command".to_owned()),

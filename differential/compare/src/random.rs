@@ -35,4 +35,12 @@ impl Random {
     pub fn signed(&mut self, x: f64) -> f64 {
         if self.below(2) == 0 { x } else { -x }
     }
+
+    /// The numbers in another order, each order as likely as any other.
+    pub fn shuffled(&mut self, mut numbers: Vec<f64>) -> Vec<f64> {
+        for last in (1..numbers.len()).rev() {
+            numbers.swap(last, self.below(last as u64 + 1) as usize);
+        }
+        numbers
+    }
 }

@@ -1,15 +1,17 @@
 //! A table of text, printed in columns or as markdown.
 
+use std::ops::Range;
+
 pub struct Table {
     /// The head, then a row for each line.
     rows: Vec<Vec<String>>,
-    /// How many columns, counted from the left, are words; the others are numbers.
-    words: usize,
+    /// Which columns are numbers; the others are words.
+    numbers: Range<usize>,
 }
 
 impl Table {
-    pub fn new(head: &[&str], words: usize) -> Self {
-        Self { rows: vec![head.iter().map(|&cell| cell.to_owned()).collect()], words }
+    pub fn new(head: &[&str], numbers: Range<usize>) -> Self {
+        Self { rows: vec![head.iter().map(|&cell| cell.to_owned()).collect()], numbers }
     }
 
     pub fn row(&mut self, cells: Vec<String>) {
@@ -26,10 +28,10 @@ impl Table {
                 .enumerate()
                 .map(|(column, cell)| {
                     let width = widths[column];
-                    if column < self.words {
-                        format!("{cell:<width$}")
-                    } else {
+                    if self.numbers.contains(&column) {
                         format!("{cell:>width$}")
+                    } else {
+                        format!("{cell:<width$}")
                     }
                 })
                 .collect();
@@ -42,7 +44,7 @@ impl Table {
     pub fn markdown(&self) -> String {
         let line = |row: &[String]| format!("| {} |\n", row.join(" | "));
         let rule: Vec<String> = (0..self.rows[0].len())
-            .map(|column| if column < self.words { "---" } else { "---:" }.to_owned())
+            .map(|column| if self.numbers.contains(&column) { "---:" } else { "---" }.to_owned())
             .collect();
         let (head, body) = self.rows.split_first().expect("a table has a head");
         let body: String = body.iter().map(|row| line(row)).collect();

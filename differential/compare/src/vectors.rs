@@ -1,5 +1,5 @@
-//! The stored list of the Rust's answers, a line of 36 bytes for each: the function's letter, the
-//! argument's bit pattern and the answer's, in lower-case hexadecimal digits.
+//! The stored list of the Rust's answers, a line for each: the function's letter, the arguments' bit
+//! patterns and the answer's, in lower-case hexadecimal digits.
 
 use std::collections::HashSet;
 use std::path::Path;
@@ -9,9 +9,10 @@ use crate::arguments::{
     Range, limits_and_neighbours, negative_powers_of_two, neighbours_of_special_values,
     phred_points, phred_probabilities, ranges, special_values,
 };
-use crate::difference::Answers;
+use crate::difference::{Answers, stored_bits};
 use crate::environment;
 use crate::function::{FUNCTIONS, Function};
+use crate::phred;
 use crate::random::Random;
 use crate::recorded;
 
@@ -21,35 +22,54 @@ const ANSWERS: usize = 1_500;
 /// By how many units in the last place our answer may differ at a chosen argument.
 const ALLOWED: u64 = 2;
 
+/// The lines of one function.
+pub struct Lines {
+    pub function: &'static str,
+    pub lines: Vec<String>,
+    /// How many answers are not stored, since ours differ from the Rust's.
+    pub left_out: usize,
+}
+
 /// Writes the list, if no answer of ours differs by more than is allowed.
 pub fn write(path: &Path, seed: u64) -> io::Result<bool> {
     println!("vectors: seed {seed}, {}", environment::c_library());
-    let mut random = Random::new(seed);
-    let mut text = String::new();
-    for (function, recorded) in FUNCTIONS.iter().zip(recorded::different_arguments()?) {
-        let list = match list(function, &recorded, &mut random) {
-            Ok(list) => list,
-            Err(problem) => {
-                println!("vectors: {}: {problem}; nothing is written", function.name);
-                return Ok(false);
-            }
-        };
-        let (stored, left_out) = (list.stored.len(), list.left_out);
-        println!("vectors: {}: {stored} answers, {left_out} left out: ours differ", function.name);
-        text += &list.lines();
+    let lists = match lists(&recorded::different_arguments()?, seed) {
+        Ok(lists) => lists,
+        Err(problem) => {
+            println!("vectors: {problem}; nothing is written");
+            return Ok(false);
+        }
+    };
+    for list in &lists {
+        let (function, stored, left_out) = (list.function, list.lines.len(), list.left_out);
+        println!("vectors: {function}: {stored} answers, {left_out} left out: ours differ");
     }
-    fs::write(path, &text)
+    let lines: Vec<String> = lists.into_iter().flat_map(|list| list.lines).collect();
+    fs::write(path, lines.concat())
         .map_err(|error| io::Error::other(format!("{}: {error}", path.display())))?;
-    println!("vectors: {} lines in {}", text.lines().count(), path.display());
+    println!("vectors: {} lines in {}", lines.len(), path.display());
     Ok(true)
 }
 
+/// The lines of each function, or what is wrong with the answers of one.
+fn lists(recorded: &[Vec<f64>], seed: u64) -> Result<Vec<Lines>, String> {
+    let mut random = Random::new(seed);
+    let mut lists = Vec::new();
+    for (function, recorded) in FUNCTIONS.iter().zip(recorded) {
+        let list = list(function, recorded, &mut random)
+            .map_err(|problem| format!("{}: {problem}", function.name))?;
+        lists.push(list.lines());
+    }
+    lists.extend(phred::vectors::lines(seed)?);
+    Ok(lists)
+}
+
 /// The answers of one function, or what is wrong with them.
-fn list<'a>(
-    function: &'a Function,
+fn list(
+    function: &'static Function,
     recorded: &[f64],
     random: &mut Random,
-) -> Result<List<'a>, String> {
+) -> Result<List, String> {
     if recorded.is_empty() {
         return Err("no call was recorded".to_owned());
     }
@@ -83,16 +103,16 @@ fn evenly(arguments: &[f64], many: usize) -> Vec<f64> {
 }
 
 /// The answers of one function that go into the list.
-struct List<'a> {
-    function: &'a Function,
+struct List {
+    function: &'static Function,
     seen: HashSet<u64>,
     stored: Vec<Answers>,
     /// How many are not stored, since ours differ from the Rust's.
     left_out: usize,
 }
 
-impl<'a> List<'a> {
-    fn new(function: &'a Function) -> Self {
+impl List {
+    fn new(function: &'static Function) -> Self {
         Self { function, seen: HashSet::new(), stored: Vec::new(), left_out: 0 }
     }
 
@@ -134,16 +154,15 @@ impl<'a> List<'a> {
         Err("ours differ far too often".to_owned())
     }
 
-    fn lines(&self) -> String {
+    fn lines(&self) -> Lines {
         let letter = self.function.letter as char;
         let line = |it: &Answers| {
             format!("{letter} {:016x} {:016x}\n", stored_bits(it.argument), stored_bits(it.rust))
         };
-        self.stored.iter().map(line).collect()
+        Lines {
+            function: self.function.name,
+            lines: self.stored.iter().map(line).collect(),
+            left_out: self.left_out,
+        }
     }
-}
-
-/// The bit pattern, and the same one for every NaN, since a NaN's own says nothing.
-fn stored_bits(x: f64) -> u64 {
-    if x.is_nan() { 0x7ff8_0000_0000_0000 } else { x.to_bits() }
 }
