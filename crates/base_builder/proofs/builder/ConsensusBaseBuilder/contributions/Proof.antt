@@ -1,0 +1,20 @@
+-- `contributions`: the total in 32 bits. Assumes nothing.
+use Rattle.base_builder.specs.Builder.{contributionsOf}
+use borrow.Author.Needs.{needs}
+use Rattle.base_builder.proofs.builder.ConsensusBaseBuilder.contributions.Statement.{
+  statement,
+}
+use Rattle.base_builder.proofs.builder.ConsensusBaseBuilder.contributions.Tie as tie
+
+total-requires : tie.Need-total-requires
+total-requires c κs = search needs
+
+cast-result : tie.Need-cast-result
+cast-result c = search needs
+
+returns : tie.Need-returns
+unfolding contributionsOf
+returns c = rw (c .total .ensures)
+
+pub contributions-spec : {M : Type 1} → statement M
+contributions-spec = tie.close (tie.spec total-requires cast-result returns)

@@ -1,0 +1,112 @@
+-- The builder of one position and its calls. Definitions only.
+use Prim.Native.Nat.{ℕ, _+_, _%_, _^_, min}
+use mathlib.Core.Bool.{Bool, _||_}
+use mathlib.Core.List.{List, [], _∷_}
+use lib.Dec.{leb, ltb, eqb}
+use lib.ListN.{getD, replicate}
+use lib.Ieee.{Float, nan}
+use Rattle.float.specs.Ops.{nought, if_then_else_}
+use Rattle.phred.specs.Phred.{phredToLnErrorProb}
+use Rattle.phred.specs.declared.LogProbability.{LogProbability}
+use Rattle.base_builder.specs.declared.tie_rule.TieRule.{TieRule}
+use Rattle.base_builder.specs.declared.tie_rule.TieRule.the-variants.{UlpRelative, FgbioCompat}
+use Rattle.base_builder.specs.declared.observation.Sum.{Sum}
+use Rattle.base_builder.specs.declared.builder.ConsensusBaseBuilder.{ConsensusBaseBuilder}
+use Rattle.base_builder.specs.declared.builder.Answer.{Answer}
+use Rattle.base_builder.specs.declared.builder.Answer.the-variants.{Accepted, Refused}
+use Rattle.base_builder.specs.Lanes.{lanes, lane, noLane, laneOfByte}
+use Rattle.base_builder.specs.Observation.{movedBy, valueOf, countOf}
+
+-- the count of lane i
+abbrev pub counted : List ℕ → ℕ → ℕ
+counted ns i = getD ns i 0
+
+-- all counts together
+unfoldable pub total : List ℕ → ℕ
+total ns = counted ns 0 + counted ns 1 + counted ns 2 + counted ns 3
+
+-- a builder that has seen nothing
+unfoldable pub cleared : TieRule → LogProbability → ConsensusBaseBuilder
+cleared rule pre =
+    record {
+      likelihoods = replicate 4 nought;
+      compensations = replicate 4 nought;
+      observations = replicate 4 0;
+      «tie_rule» = rule;
+      «ln_error_pre_umi» = pre;
+    }
+
+-- a new builder at a pre-UMI rate, under the default rule
+unfoldable pub newAt : ℕ → ConsensusBaseBuilder
+newAt pre = cleared FgbioCompat (record { 0 = phredToLnErrorProb pre })
+
+-- the same builder under another rule
+unfoldable pub withRule : TieRule → ConsensusBaseBuilder → ConsensusBaseBuilder
+withRule rule b =
+    record {
+      likelihoods = b .likelihoods;
+      compensations = b .compensations;
+      observations = b .observations;
+      «tie_rule» = rule;
+      «ln_error_pre_umi» = b .«ln_error_pre_umi»;
+    }
+
+-- the same builder, made to see nothing
+unfoldable pub resetOf : ConsensusBaseBuilder → ConsensusBaseBuilder
+resetOf b = cleared (b .«tie_rule») (b .«ln_error_pre_umi»)
+
+-- a lane's sum and compensation
+abbrev pub sumOf : ConsensusBaseBuilder → ℕ → Sum
+sumOf b i = record { lane = lane (b .likelihoods) i; compensation = lane (b .compensations) i }
+
+-- the sum of lane i after lane k was observed with these two logarithms
+unfoldable pub movedLane : Float → Float → ℕ → ConsensusBaseBuilder → ℕ → Sum
+movedLane correct error k b i = movedBy (valueOf correct error k i) (sumOf b i)
+
+-- the builder after lane k was observed
+unfoldable pub observed : Float → Float → ℕ → ConsensusBaseBuilder → ConsensusBaseBuilder
+observed correct error k b =
+    record {
+      likelihoods = lanes (λ i. movedLane correct error k b i .lane);
+      compensations = lanes (λ i. movedLane correct error k b i .compensation);
+      observations = lanes (λ i. countOf (counted (b .observations) i) k i);
+      «tie_rule» = b .«tie_rule»;
+      «ln_error_pre_umi» = b .«ln_error_pre_umi»;
+    }
+
+-- the entry of a quality: qualities above 93 use entry 93
+abbrev pub entryOf : ℕ → ℕ
+entryOf q = min q 93
+
+-- nothing more can be counted
+unfoldable pub isFull : ConsensusBaseBuilder → Bool
+isFull b = leb 4294967295 (total (b .observations))
+
+-- the builder after a base was added at a quality: a byte that is no base is ignored, and a full builder stays as it is
+unfoldable pub added : List Float → List Float → ℕ → ℕ → ConsensusBaseBuilder → ConsensusBaseBuilder
+added correct error base q b =
+    let k = laneOfByte base in
+    if eqb k noLane || isFull b then b
+    else observed (getD correct (entryOf q) nan) (getD error (entryOf q) nan) k b
+
+-- the answer: refused where a base meets a full builder
+unfoldable pub answerOf : ℕ → ConsensusBaseBuilder → Answer
+answerOf base b =
+    if eqb (laneOfByte base) noLane then Accepted
+    else if isFull b then Refused
+    else Accepted
+
+-- document 01's number of an answer, 0 for one that is no refusal
+abbrev pub numberOf : Answer → ℕ
+numberOf Accepted = 0
+numberOf Refused = 11
+
+-- the number of bases that contributed, in 32 bits
+unfoldable pub contributionsOf : ConsensusBaseBuilder → ℕ
+contributionsOf b = total (b .observations) % 2 ^ 32
+
+-- the number of observations of a base, 0 for a byte that is none
+unfoldable pub observationsForBase : ConsensusBaseBuilder → ℕ → ℕ
+observationsForBase b base =
+    if ltb (laneOfByte base) noLane then counted (b .observations) (laneOfByte base)
+    else 0

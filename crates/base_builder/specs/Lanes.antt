@@ -1,0 +1,38 @@
+-- Four lanes, one for each of A, C, G and T, in this order. Definitions only.
+use Prim.Native.Nat.{ℕ, zero, suc}
+use mathlib.Core.Bool.{Bool, true, _&&_, _||_}
+use mathlib.Core.List.{List, [], _∷_}
+use lib.Dec.{eqb}
+use lib.ListN.{getD}
+use lib.Ieee.{Float, nan}
+use Rattle.float.specs.Ops.{if_then_else_}
+
+-- what f gives at the lanes 0 to 3
+unfoldable pub lanes : {A : Type 0} → (ℕ → A) → List A
+lanes f = f 0 ∷ f 1 ∷ f 2 ∷ f 3 ∷ []
+
+-- what lane i holds
+abbrev pub lane : List Float → ℕ → Float
+lane xs i = getD xs i nan
+
+-- the number that says that there is no lane
+abbrev pub noLane : ℕ
+noLane = 4
+
+-- the claim p holds of every number below n
+unfoldable pub allBelow : ℕ → (ℕ → Bool) → Bool
+allBelow zero p = true
+allBelow (suc n) p = allBelow n p && p n
+
+-- the lane of a byte: ACGTacgt, and none for any other
+unfoldable pub laneOfByte : ℕ → ℕ
+laneOfByte x =
+    if eqb x 65 || eqb x 97 then 0
+    else if eqb x 67 || eqb x 99 then 1
+    else if eqb x 71 || eqb x 103 then 2
+    else if eqb x 84 || eqb x 116 then 3
+    else noLane
+
+-- the base of a lane, and N for no lane
+unfoldable pub baseOf : ℕ → ℕ
+baseOf i = getD (65 ∷ 67 ∷ 71 ∷ 84 ∷ []) i 78

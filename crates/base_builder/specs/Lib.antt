@@ -1,0 +1,4 @@
+pub mod Lanes
+pub mod Ties
+pub mod Observation
+pub mod Builder

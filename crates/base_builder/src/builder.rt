@@ -1,0 +1,236 @@
+// The builder of one position: a running sum of logarithms for each base, and how often each base was
+// observed. It goes in by value and comes back.
+ghost use mathlib.Core.Path.{_≡_};
+ghost use mathlib.Core.Bool.{false};
+ghost use Prim.Native.Nat.{_<_};
+ghost use Rattle.base_builder.specs.Builder.{total as totalOf, cleared as clearedOf, newAt, withRule, resetOf, movedLane, sumOf, observed as observedOf, isFull, entryOf, added, answerOf, contributionsOf, observationsForBase};
+use crate::observation::Sum;
+use crate::observation::count;
+use crate::observation::lane_of;
+use crate::observation::moved;
+use crate::observation::value;
+use crate::tie_rule::NO_LANE;
+use crate::tie_rule::TieRule;
+use phred::LogProbability;
+use phred::PhredScore;
+use rate_tables::AdjustedProbabilityTables;
+
+pub struct ConsensusBaseBuilder {
+    // The logarithm of the likelihood of A, C, G and T, and its compensation.
+    pub likelihoods: [f64; 4],
+    pub compensations: [f64; 4],
+    // How often each was observed.
+    pub observations: [u32; 4],
+    pub tie_rule: TieRule,
+    pub ln_error_pre_umi: LogProbability,
+}
+
+pub enum Answer {
+    // The base was counted, or ignored as no base.
+    Accepted,
+    // The counts total 4,294,967,295 or more.
+    Refused,
+}
+
+// What `add` gives: the builder, unchanged where it refuses.
+pub struct Addition {
+    pub builder: ConsensusBaseBuilder,
+    pub answer: Answer,
+}
+
+impl ConsensusBaseBuilder {
+    // A builder under the default rule. The post-UMI rate is in the tables alone.
+    pub fn new(error_rate_pre_umi: PhredScore) -> Self
+        ensures { λ r. ⌜ r ≡ newAt («error_rate_pre_umi» .0) ⌝ }
+    {
+        cleared(
+            TieRule::FgbioCompat,
+            phred::phred_to_ln_error_prob(error_rate_pre_umi),
+        )
+    }
+
+    pub fn with_tie_rule(self, rule: TieRule) -> Self
+        ensures { λ r. ⌜ r ≡ withRule rule self ⌝ }
+    {
+        let likelihoods = self.likelihoods;
+        let compensations = self.compensations;
+        let observations = self.observations;
+        let pre = self.ln_error_pre_umi;
+        Self {
+            likelihoods,
+            compensations,
+            observations,
+            tie_rule: rule,
+            ln_error_pre_umi: pre,
+        }
+    }
+
+    // The same: by value the source's two functions are one.
+    pub fn set_tie_rule(self, rule: TieRule) -> Self
+        ensures { λ r. ⌜ r ≡ withRule rule self ⌝ }
+    {
+        self.with_tie_rule(rule)
+    }
+
+    // The builder for the next position. The rule stays.
+    pub fn reset(self) -> Self
+        ensures { λ r. ⌜ r ≡ resetOf self ⌝ }
+    {
+        let rule = self.tie_rule;
+        let pre = self.ln_error_pre_umi;
+        cleared(rule, pre)
+    }
+
+    // One observation. The tables are copied at each call: a loop takes `add_with`.
+    pub fn add(self, base: u8, qual: PhredScore, tables: AdjustedProbabilityTables) -> Addition
+        ensures builder { λ r. ⌜ r .builder ≡ added (tables .correct) (tables .«error_per_alt») base (qual .0) self ⌝ }
+        ensures answer { λ r. ⌜ r .answer ≡ answerOf base self ⌝ }
+    {
+        let correct = tables.correct;
+        let error_per_alt = tables.error_per_alt;
+        add_with(self, base, qual, &correct, &error_per_alt)
+    }
+
+    // How many bases contributed.
+    pub fn contributions(self) -> u32
+        ensures { λ r. ⌜ r ≡ contributionsOf self ⌝ }
+    {
+        let observations = self.observations;
+        (total(observations) % 4294967296) as u32
+    }
+
+    // How often a base was observed: 0 for a byte that is none.
+    pub fn observations_for_base(self, base: u8) -> u32
+        ensures { λ r. ⌜ r ≡ observationsForBase self base ⌝ }
+    {
+        let observations = self.observations;
+        let k = lane_of(base);
+        if k < 4 {
+            return observations[k];
+        }
+        0
+    }
+
+    pub fn all_observations(self) -> [u32; 4]
+        ensures { λ r. ⌜ r ≡ self .observations ⌝ }
+    {
+        self.observations
+    }
+}
+
+fn cleared(rule: TieRule, pre: LogProbability) -> ConsensusBaseBuilder
+    ensures { λ r. ⌜ r ≡ clearedOf rule pre ⌝ }
+{
+    ConsensusBaseBuilder {
+        likelihoods: [0.0; 4],
+        compensations: [0.0; 4],
+        observations: [0; 4],
+        tie_rule: rule,
+        ln_error_pre_umi: pre,
+    }
+}
+
+fn total(observations: [u32; 4]) -> u64
+    ensures { λ r. ⌜ r ≡ totalOf observations ⌝ }
+{
+    wide(observations[0]) + wide(observations[1]) + wide(observations[2]) + wide(observations[3])
+}
+
+fn wide(n: u32) -> u64
+    ensures { λ r. ⌜ r ≡ n ⌝ }
+    ensures { λ r. ⌜ r < 4294967296 ⌝ }
+{
+    n as u64
+}
+
+// One observation, with the two tables lent.
+pub fn add_with(
+    builder: ConsensusBaseBuilder,
+    base: u8,
+    qual: PhredScore,
+    correct: &[f64; 94],
+    error_per_alt: &[f64; 94],
+) -> Addition
+    ensures builder { λ r. ⌜ r .builder ≡ added (now (correct .entry)) (now («error_per_alt» .entry)) base (qual .0) builder ⌝ }
+    ensures answer { λ r. ⌜ r .answer ≡ answerOf base builder ⌝ }
+{
+    let k = lane_of(base);
+    if k == NO_LANE {
+        return Addition {
+            builder,
+            answer: Answer::Accepted,
+        };
+    }
+    let observations = builder.observations;
+    if 4294967295 <= total(observations) {
+        return Addition {
+            builder,
+            answer: Answer::Refused,
+        };
+    }
+    let q = entry(qual);
+    let builder = observed(builder, correct[q], error_per_alt[q], k);
+    Addition {
+        builder,
+        answer: Answer::Accepted,
+    }
+}
+
+// Qualities above 93 use entry 93.
+fn entry(qual: PhredScore) -> usize
+    ensures { λ r. ⌜ r ≡ entryOf (qual .0) ⌝ }
+{
+    let q = qual.0;
+    if 93 < q {
+        return 93;
+    }
+    q as usize
+}
+
+// Lane i after lane k was observed.
+fn moved_lane(builder: ConsensusBaseBuilder, correct: f64, error: f64, k: usize, i: usize) -> Sum
+    requires { ⌜ i < 4 ⌝ }
+    ensures { λ r. ⌜ r ≡ movedLane correct error k builder i ⌝ }
+{
+    let likelihoods = builder.likelihoods;
+    let compensations = builder.compensations;
+    let sum = Sum {
+        lane: likelihoods[i],
+        compensation: compensations[i],
+    };
+    moved(value(correct, error, k, i), sum)
+}
+
+fn observed(
+    builder: ConsensusBaseBuilder,
+    correct: f64,
+    error: f64,
+    k: usize,
+) -> ConsensusBaseBuilder
+    ensures { λ r. ⌜ r ≡ observedOf correct error k builder ⌝ }
+{
+    let a = moved_lane(builder, correct, error, k, 0);
+    let c = moved_lane(builder, correct, error, k, 1);
+    let g = moved_lane(builder, correct, error, k, 2);
+    let t = moved_lane(builder, correct, error, k, 3);
+    let n = builder.observations;
+    let rule = builder.tie_rule;
+    let pre = builder.ln_error_pre_umi;
+    ConsensusBaseBuilder {
+        likelihoods: [a.lane, c.lane, g.lane, t.lane],
+        compensations: [
+            a.compensation,
+            c.compensation,
+            g.compensation,
+            t.compensation,
+        ],
+        observations: [
+            count(n[0], k, 0),
+            count(n[1], k, 1),
+            count(n[2], k, 2),
+            count(n[3], k, 3),
+        ],
+        tie_rule: rule,
+        ln_error_pre_umi: pre,
+    }
+}
