@@ -2,3 +2,4 @@
 // under a name of its own.
 mod elementary_functions;
 mod phred_functions;
+mod table_functions;

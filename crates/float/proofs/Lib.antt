@@ -1,4 +1,5 @@
 pub mod Cases
+pub mod Arms
 pub mod Order
 pub mod Patterns
 pub mod Finite

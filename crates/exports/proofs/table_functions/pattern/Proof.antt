@@ -1,0 +1,20 @@
+-- `pattern`: the pattern of a number, and one for NaN. Assumes nothing.
+use lib.Ieee.{toBits}
+use Rattle.float.proofs.Order.{nan-alone}
+use Rattle.float.proofs.Patterns.{number}
+use borrow.Author.Needs.{needs}
+use Rattle.exports.proofs.table_functions.pattern.Statement.{statement}
+use Rattle.exports.proofs.table_functions.pattern.Tie as tie
+
+returns : tie.Need-returns
+unfolding toBits
+returns c = rw (nan-alone _ (c .if1 .taken))
+
+float-to-bits-result : tie.Need-float-to-bits-result
+float-to-bits-result c = number _ (c .if1 .left)
+
+returns-2 : tie.Need-returns-2
+returns-2 c = search needs
+
+pub pattern-spec : {M : Type 1} → statement M
+pattern-spec = tie.close (tie.spec returns float-to-bits-result returns-2)
