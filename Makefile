@@ -36,7 +36,8 @@ library: ## prove the crates and write target/staticlib/libexports.a, for C and 
 
 differential: library ## compare with the Rust, bit for bit, where the Rust can be had
 	@differential/run elementary --arguments $(ARGUMENTS) && \
-		differential/run phred --arguments $(ARGUMENTS) || [ $$? -eq $(SKIPPED) ]
+		differential/run phred --arguments $(ARGUMENTS) && \
+		differential/run tables || [ $$? -eq $(SKIPPED) ]
 
 vectors: library ## write the stored list of the Rust's answers anew (VECTORS=FILE)
 	differential/run vectors $(VECTORS)

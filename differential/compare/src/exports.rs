@@ -17,6 +17,8 @@ unsafe extern "C" {
     fn consensus_ln_sum_exp_array(values: *const f64, length: usize) -> f64;
     pub safe fn consensus_ln_normalize(value: f64, norm: f64) -> f64;
     pub safe fn consensus_ln_not(x: f64) -> f64;
+
+    fn consensus_tables(pre: u8, post: u8, out: *mut u8, length: usize) -> u64;
 }
 
 /// `consensus_ln_sum_exp_array` of a slice.
@@ -24,4 +26,11 @@ pub fn ln_sum_exp_array(values: &[f64]) -> f64 {
     // SAFETY: a slice is passed as a pointer and how many elements there are behind it, and the
     // function reads these alone.
     unsafe { consensus_ln_sum_exp_array(values.as_ptr(), values.len()) }
+}
+
+/// `consensus_tables` into a slice.
+pub fn tables(pre: u8, post: u8, out: &mut [u8]) -> u64 {
+    // SAFETY: a slice is passed as a pointer and how many elements there are behind it, and the
+    // function writes these alone.
+    unsafe { consensus_tables(pre, post, out.as_mut_ptr(), out.len()) }
 }

@@ -15,11 +15,13 @@ mod phred;
 mod random;
 mod recorded;
 mod table;
+mod tables;
 mod vectors;
 
 const USAGE: &str = "\
 usage: compare elementary [--arguments N] [--seed N]   the four elementary functions, bit for bit
        compare phred [--arguments N] [--seed N]        the functions of phred.rs, bit for bit
+       compare tables                                  the tables of all 256 rates, bit for bit
        compare vectors FILE [--seed N]                 write the stored list of the Rust's answers
        compare bench [--markdown] [--seed N]           times, the Rust's beside ours
 The seed is also taken from the variable DIFFERENTIAL_SEED.";
@@ -32,6 +34,7 @@ const SEED: u64 = 1;
 enum Command {
     Elementary,
     Phred,
+    Tables,
     Vectors(PathBuf),
     Bench,
 }
@@ -67,6 +70,7 @@ impl Request {
         match &self.command {
             Command::Elementary => elementary::run(self.arguments, self.seed),
             Command::Phred => Ok(phred::run(self.arguments, self.seed)),
+            Command::Tables => Ok(tables::run()),
             Command::Vectors(file) => vectors::write(file, self.seed),
             Command::Bench => {
                 bench::run(self.seed, self.markdown);
@@ -81,6 +85,7 @@ fn command(words: &[String]) -> Result<Command, String> {
     match words[..] {
         ["elementary"] => Ok(Command::Elementary),
         ["phred"] => Ok(Command::Phred),
+        ["tables"] => Ok(Command::Tables),
         ["vectors", file] => Ok(Command::Vectors(file.into())),
         ["bench"] => Ok(Command::Bench),
         _ => Err("no such command".to_owned()),
