@@ -1,5 +1,4 @@
 pub mod Digits
+pub mod Fields
 pub mod Patterns
-pub mod Letters
-pub mod Bounds
 pub mod Examples

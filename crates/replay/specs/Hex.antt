@@ -1,17 +1,18 @@
 -- The number that hex digits write. Definitions only.
 use Prim.Native.Nat.{ℕ, _+_, _-_, _*_}
-use mathlib.Core.Bool.{_&&_}
 use mathlib.Core.List.{List, [], _∷_}
-use lib.Dec.{leb, ltb}
+use lib.Dec.{ltb}
 use Rattle.float.specs.Ops.{if_then_else_}
 use Rattle.replay.specs.declared.hex.Written.{Written}
 use Rattle.replay.specs.declared.hex.Written.the-variants.{Number, NoNumber}
 
--- the value of a digit, 0 to 9 or a to f, and 16 for any other byte
+-- the value of a digit, and 16 for any other byte: 48 to 57 are 0 to 9, and 97 to 102 are a to f
 unfoldable pub digitOf : ℕ → ℕ
 digitOf b =
-    if leb 48 b && leb b 57 then b - 48
-    else if leb 97 b && leb b 102 then b - 97 + 10
+    if ltb b 48 then 16
+    else if ltb b 58 then b - 48
+    else if ltb b 97 then 16
+    else if ltb b 103 then b - 97 + 10
     else 16
 
 -- the number that digits write which go on after those of n

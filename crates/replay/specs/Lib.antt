@@ -1,4 +1,5 @@
-pub mod Kinds
+pub mod Functions
 pub mod Hex
+pub mod Answers
 pub mod Lines
 pub mod Counts

@@ -1,49 +1,76 @@
--- What a line of the stored list says: whether its result is the function's value at its argument, bit for bit. Definitions only.
-use Prim.Native.Nat.{ℕ}
-use mathlib.Core.Bool.{Bool, _&&_}
-use mathlib.Core.List.{List, [], _∷_}
+-- What a line of the stored list says: whether its result is what the function gives for its arguments, bit for bit. Definitions only.
+use Prim.Native.Nat.{ℕ, zero, suc, _+_, _*_}
+use mathlib.Core.Bool.{true, false, _&&_}
+use mathlib.Core.List.{List}
 use lib.Dec.{eqb}
-use lib.ListN.{length, take, drop, getD}
-use lib.Ieee.{binary64, toBits}
-use Rattle.float.specs.Ops.{bits, if_then_else_}
-use Rattle.replay.specs.declared.kinds.Function.{Function}
-use Rattle.replay.specs.declared.kinds.Kind.{Kind}
-use Rattle.replay.specs.declared.kinds.Kind.the-variants.{OfNumber, Unknown}
+use lib.ListN.{length, take, drop, getD, set, replicate}
+use Rattle.float.specs.Ops.{if_then_else_}
+use Rattle.replay.specs.declared.functions.Function.{Function}
+use Rattle.replay.specs.declared.functions.Kind.{Kind}
+use Rattle.replay.specs.declared.functions.Kind.the-variants.{Answer, Unknown}
 use Rattle.replay.specs.declared.hex.Written.{Written}
 use Rattle.replay.specs.declared.hex.Written.the-variants.{Number, NoNumber}
+use Rattle.replay.specs.declared.lines.Fields.{Fields}
 use Rattle.replay.specs.declared.lines.Verdict.{Verdict}
 use Rattle.replay.specs.declared.lines.Verdict.the-variants.{End, Equal, Differs, NotAnAnswer}
-use Rattle.replay.specs.Kinds.{kindOf, valueOf}
+use Rattle.replay.specs.Functions.{kindOf, argumentsOf}
 use Rattle.replay.specs.Hex.{hexOf}
+use Rattle.replay.specs.Answers.{answerOf}
 
--- of the bit patterns of an argument and a result; toBits has 0x7ff8_0000_0000_0000 for a NaN, as the list has
-unfoldable pub comparedOf : Function → ℕ → ℕ → Verdict
-comparedOf f argument result =
-    if eqb (toBits binary64 (valueOf f (bits argument))) result then Equal f
-    else Differs f
+-- the number of a field: a space and 16 digits
+unfoldable pub fieldOf : List ℕ → Written
+fieldOf bytes =
+    if eqb (getD bytes 0 0) 32 then hexOf (take 16 (drop 1 bytes))
+    else NoNumber
 
--- of what a line has for the two
-abbrev pub readOf : Function → Written → Written → Verdict
-readOf f (Number argument) (Number result) = comparedOf f argument result
-readOf f (Number argument) NoNumber = NotAnAnswer
-readOf f NoNumber result = NotAnAnswer
+-- no numbers
+abbrev pub noFields : Fields
+noFields = record { formed = false; numbers = replicate 5 0 }
 
--- a space after the letter, one after the argument, and a newline after the result
-unfoldable pub isSpaced : List ℕ → Bool
-isSpaced line = eqb (getD line 1 0) 32 && (eqb (getD line 18 0) 32 && eqb (getD line 35 0) 10)
+-- what follows from a number, where there is one
+abbrev pub withNumber : Written → (ℕ → Fields) → Fields
+withNumber (Number n) f = f n
+withNumber NoNumber f = noFields
 
--- of a line of a function of one f64: the letter, a space, 16 digits, a space, 16 digits, a newline
-unfoldable pub ofNumber : Function → List ℕ → Verdict
-ofNumber f line =
-    if eqb (length line) 36 && isSpaced line then readOf f (hexOf (take 16 (drop 2 line))) (hexOf (take 16 (drop 19 line)))
+-- where field k of a line starts, and the newline of a line that has k fields
+abbrev pub startOf : ℕ → ℕ
+startOf k = 17 * k + 1
+
+-- the numbers of the first k fields of a line, before those that are read
+unfoldable pub fieldsFrom : ℕ → List ℕ → List ℕ → Fields
+fieldsFrom zero line ns = record { formed = true; numbers = ns }
+fieldsFrom (suc k) line ns = withNumber (fieldOf (take 17 (drop (startOf k) line))) (λ n. fieldsFrom k line (set ns k n))
+
+-- the k numbers of a line in the form: a letter, a field for each number, a newline
+unfoldable pub numbersOf : ℕ → List ℕ → Fields
+numbersOf k line =
+    if eqb (length line) (startOf k + 1) && eqb (getD line (startOf k) 0) 10 then fieldsFrom k line (replicate 5 0)
+    else noFields
+
+-- of a line's letter, our answer and the line's
+abbrev pub beside : ℕ → Written → ℕ → Verdict
+beside letter (Number ours) result =
+    if eqb ours result then Equal letter
+    else Differs letter
+beside letter NoNumber result = NotAnAnswer
+
+-- of a line's letter, its function and its numbers, of which the result is the last
+abbrev pub ofFields : ℕ → Function → Fields → Verdict
+ofFields letter f fields =
+    if fields .formed then beside letter (answerOf f (fields .numbers)) (getD (fields .numbers) (argumentsOf f) 0)
     else NotAnAnswer
 
+-- of a line of a function's arguments and its result
+abbrev pub answerLine : ℕ → Function → List ℕ → Verdict
+answerLine letter f line = ofFields letter f (numbersOf (argumentsOf f + 1) line)
+
 -- of a line of a kind
-abbrev pub ofKind : Kind → List ℕ → Verdict
-ofKind (OfNumber f) line = ofNumber f line
-ofKind Unknown line = NotAnAnswer
+abbrev pub ofKind : ℕ → Kind → List ℕ → Verdict
+ofKind letter (Answer f) line = answerLine letter f line
+ofKind letter Unknown line = NotAnAnswer
 
 -- of a line, and of no bytes: they are the end of the list
 unfoldable pub verdictOf : List ℕ → Verdict
-verdictOf [] = End
-verdictOf (letter ∷ rest) = ofKind (kindOf letter) (letter ∷ rest)
+verdictOf line =
+    if eqb (length line) 0 then End
+    else ofKind (getD line 0 0) (kindOf (getD line 0 0)) line

@@ -1,20 +1,24 @@
 // What a line of the stored list says of its function.
 ghost use mathlib.Core.Path.{_≡_};
-ghost use lib.Ieee.{binary64, toBits};
+ghost use Prim.Native.Nat.{_≤_};
 ghost use lib.ListN.{length};
-ghost use Rattle.float.specs.Ops.{bits};
-ghost use Rattle.replay.specs.Lines.{isSpaced, comparedOf, ofNumber, verdictOf};
+ghost use Rattle.replay.specs.Lines.{fieldOf, noFields, numbersOf, answerLine, verdictOf};
+use crate::answers;
+use crate::functions;
+use crate::functions::Function;
+use crate::functions::Kind;
 use crate::hex;
 use crate::hex::Written;
-use crate::kinds;
-use crate::kinds::Function;
-use crate::kinds::Kind;
+
+// No line has more numbers.
+pub const NUMBERS: usize = 5;
 
 pub enum Verdict {
     // No line is left.
     End,
-    Equal(Function),
-    Differs(Function),
+    // The letter of the line, whose answer is equal to ours or not.
+    Equal(u8),
+    Differs(u8),
     NotAnAnswer,
 }
 
@@ -25,72 +29,84 @@ pub fn judge(line: &[u8]) -> Verdict
     if line.len() == 0 {
         return Verdict::End;
     }
-    let kind = kinds::kind_of(line[0]);
+    let letter = line[0];
+    let kind = functions::kind_of(letter);
     match kind {
-        Kind::OfNumber(function) => of_number(function, line),
+        Kind::Answer(function) => answer_line(letter, function, line),
         Kind::Unknown => Verdict::NotAnAnswer,
     }
 }
 
-// A line of a function of one f64: the letter, a space, 16 digits, a space, 16 digits, a newline.
-fn of_number(function: Function, line: &[u8]) -> Verdict
-    ensures { λ r. ⌜ r ≡ ofNumber function (now (line .entry)) ⌝ }
+// A line of a function's arguments and its result.
+fn answer_line(letter: u8, function: Function, line: &[u8]) -> Verdict
+    ensures { λ r. ⌜ r ≡ answerLine letter function (now (line .entry)) ⌝ }
 {
-    if line.len() != 36 {
+    let last = functions::arguments(function);
+    let fields = numbers(line, last + 1);
+    let read = fields.numbers;
+    if !fields.formed {
         return Verdict::NotAnAnswer;
     }
-    if !is_spaced(line) {
-        return Verdict::NotAnAnswer;
-    }
-    let Written::Number(argument) = hex::number(&line[2..18]) else {
-        return Verdict::NotAnAnswer;
-    };
-    let Written::Number(result) = hex::number(&line[19..35]) else {
+    let Written::Number(ours) = answers::answer(function, read) else {
         return Verdict::NotAnAnswer;
     };
-    compared(function, argument, result)
+    if ours == read[last] {
+        return Verdict::Equal(letter);
+    }
+    Verdict::Differs(letter)
 }
 
-fn is_spaced(line: &[u8]) -> bool
-    requires { ⌜ length (now line) ≡ 36 ⌝ }
-    ensures { λ r. ⌜ r ≡ isSpaced (now (line .entry)) ⌝ }
-{
-    if line[1] != b' ' {
-        return false;
-    }
-    if line[18] != b' ' {
-        return false;
-    }
-    line[35] == b'\n'
+// The numbers of a line, and zeros after them, where the line is in the form.
+pub struct Fields {
+    pub formed: bool,
+    pub numbers: [u64; NUMBERS],
 }
 
-fn compared(function: Function, argument: u64, result: u64) -> Verdict
-    ensures { λ r. ⌜ r ≡ comparedOf function argument result ⌝ }
+// The form of a line: a letter, a field for each number, a newline. The fields are read from the last
+// to the first.
+fn numbers(line: &[u8], count: usize) -> Fields
+    requires { ⌜ count ≤ 5 ⌝ }
+    ensures { λ r. ⌜ r ≡ numbersOf count (now (line .entry)) ⌝ }
 {
-    let value = kinds::value(function, from_pattern(argument));
-    if pattern_of(value) == result {
-        Verdict::Equal(function)
-    } else {
-        Verdict::Differs(function)
+    let end = 17 * count + 1;
+    if line.len() != end + 1 {
+        return no_fields();
+    }
+    if line[end] != b'\n' {
+        return no_fields();
+    }
+    let mut numbers = [0; NUMBERS];
+    let mut left = count;
+    while 0 < left {
+        left -= 1;
+        let start = 17 * left + 1;
+        let Written::Number(n) = field(&line[start..start + 17]) else {
+            return no_fields();
+        };
+        numbers[left] = n;
+    }
+    Fields {
+        formed: true,
+        numbers,
     }
 }
 
-// The f64 with a bit pattern; from_bits is not asked for a NaN.
-fn from_pattern(pattern: u64) -> f64
-    ensures { λ r. ⌜ r ≡ bits pattern ⌝ }
+fn no_fields() -> Fields
+    ensures { λ r. ⌜ r ≡ noFields ⌝ }
 {
-    if 0x7ff0_0000_0000_0000 < pattern % 0x8000_0000_0000_0000 {
-        return 0.0 / 0.0;
+    Fields {
+        formed: false,
+        numbers: [0; NUMBERS],
     }
-    f64::from_bits(pattern)
 }
 
-// The bit pattern of x; to_bits is not asked at a NaN, for which the list has this one.
-fn pattern_of(x: f64) -> u64
-    ensures { λ r. ⌜ r ≡ toBits binary64 x ⌝ }
+// A space and 16 digits.
+fn field(bytes: &[u8]) -> Written
+    requires { ⌜ length (now bytes) ≡ 17 ⌝ }
+    ensures { λ r. ⌜ r ≡ fieldOf (now (bytes .entry)) ⌝ }
 {
-    if x != x {
-        return 0x7ff8_0000_0000_0000;
+    if bytes[0] != b' ' {
+        return Written::NoNumber;
     }
-    f64::to_bits(x)
+    hex::number(&bytes[1..17])
 }

@@ -1,17 +1,17 @@
 // Replays a stored list of answers: reads each line from standard input, works its answer out anew
 // and compares the two, bit for bit. The counts at the end say how many answers were compared.
+mod answers;
 mod counts;
+mod functions;
 mod hex;
-mod kinds;
 mod lines;
 
 ghost use Prim.Native.Nat.{_≤_};
 ghost use lib.ListN.{length};
 ghost use Rattle.io.specs.Counts.{Counts as Within};
-ghost use Rattle.replay.specs.Kinds.{longest};
-use counts::Counts;
-use kinds::Function;
-use kinds::LONGEST;
+ghost use Rattle.replay.specs.Functions.{longest};
+use counts::COUNTERS;
+use functions::LONGEST;
 use libc::STDIN_FILENO;
 use libc::STDOUT_FILENO;
 use lines::Verdict;
@@ -19,14 +19,11 @@ use lines::Verdict;
 // A proved loop has to end, and nothing says that an input does. No stored list is this long.
 const MOST_LINES: u64 = 1_000_000;
 
-// So many of the lines that differ are written out.
-const MOST_SHOWN: u64 = 20;
-
 fn main() {
-    let mut counts = counts::none();
+    let mut counts = [0; COUNTERS];
     let mut lines: u64 = 0;
     while lines < MOST_LINES {
-        let verdict = next(counts.differing < MOST_SHOWN);
+        let verdict = next();
         match verdict {
             Verdict::End => {
                 break;
@@ -38,19 +35,20 @@ fn main() {
             Verdict::Equal(_) => {}
             Verdict::Differs(_) => {}
         }
-        counts = counts::counted(counts, verdict);
+        counts::count(&mut counts, verdict);
         lines += 1;
     }
-    print_all(counts, lines);
+    print_all(&counts);
 }
 
-// Reads a line and judges it; where is_shown, a line that differs is written out.
-fn next(is_shown: bool) -> Verdict {
+// Reads a line and judges it. A line that differs is written out.
+fn next() -> Verdict {
     let mut room = [0u8; LONGEST];
     let n = read_line(&mut room);
     let verdict = lines::judge(&room[..n]);
-    if is_shown {
-        print_differing(verdict, &room[..n]);
+    if let Verdict::Differs(_) = verdict {
+        io::write_all(STDOUT_FILENO, b"differs: ");
+        io::write_all(STDOUT_FILENO, &room[..n]);
     }
     verdict
 }
@@ -65,15 +63,8 @@ fn read_line(room: &mut [u8]) -> usize
     if start < 2 {
         return start;
     }
-    let end = kinds::line_length(room[0]);
+    let end = functions::line_length(room[0]);
     2 + io::read_full(STDIN_FILENO, &mut room[2..end])
-}
-
-fn print_differing(verdict: Verdict, line: &[u8]) {
-    if let Verdict::Differs(_) = verdict {
-        io::write_all(STDOUT_FILENO, b"differs: ");
-        io::write_all(STDOUT_FILENO, line);
-    }
 }
 
 fn print_place(line: u64) {
@@ -82,22 +73,29 @@ fn print_place(line: u64) {
     io::write_all(STDOUT_FILENO, b"\n");
 }
 
-fn print_all(counts: Counts, lines: u64) {
-    if lines == 0 {
-        io::write_all(STDOUT_FILENO, b"no answers\n");
-        return;
-    }
-    print_counts(b"exp: ", counts, Function::Exp);
-    print_counts(b"ln: ", counts, Function::Ln);
-    print_counts(b"ln_1p: ", counts, Function::LnOnePlus);
-    print_counts(b"exp_m1: ", counts, Function::ExpMinusOne);
+fn print_all(counts: &[u64; COUNTERS]) {
+    print_counts(b"exp: ", counts, b'e');
+    print_counts(b"ln: ", counts, b'l');
+    print_counts(b"ln_1p: ", counts, b'p');
+    print_counts(b"exp_m1: ", counts, b'm');
+    print_counts(b"phred_to_ln_error_prob: ", counts, b'q');
+    print_counts(b"phred_to_ln_correct_prob: ", counts, b'r');
+    print_counts(b"ln_prob_to_phred: ", counts, b'f');
+    print_counts(b"log1pexp: ", counts, b'g');
+    print_counts(b"ln_one_minus_exp: ", counts, b'c');
+    print_counts(b"ln_a_minus_b: ", counts, b'd');
+    print_counts(b"ln_error_prob_two_trials: ", counts, b't');
+    print_counts(b"ln_sum_exp: ", counts, b's');
+    print_counts(b"ln_sum_exp_array: ", counts, b'a');
+    print_counts(b"ln_normalize: ", counts, b'z');
+    print_counts(b"ln_not: ", counts, b'n');
 }
 
-fn print_counts(name: &[u8], counts: Counts, function: Function) {
-    let place = kinds::place(function);
+fn print_counts(name: &[u8], counts: &[u64; COUNTERS], letter: u8) {
+    let place = letter as usize;
     io::write_all(STDOUT_FILENO, name);
-    io::print_decimal(STDOUT_FILENO, counts.equal[place]);
+    io::print_decimal(STDOUT_FILENO, counts[place + 256]);
     io::write_all(STDOUT_FILENO, b" of ");
-    io::print_decimal(STDOUT_FILENO, counts.answers[place]);
+    io::print_decimal(STDOUT_FILENO, counts[place]);
     io::write_all(STDOUT_FILENO, b" equal\n");
 }
