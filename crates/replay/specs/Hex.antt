@@ -2,6 +2,7 @@
 use Prim.Native.Nat.{ℕ, _+_, _-_, _*_}
 use mathlib.Core.List.{List, [], _∷_}
 use lib.Dec.{ltb}
+use lib.ListN.{length}
 use Rattle.float.specs.Ops.{if_then_else_}
 use Rattle.replay.specs.declared.hex.Written.{Written}
 use Rattle.replay.specs.declared.hex.Written.the-variants.{Number, NoNumber}
@@ -22,6 +23,8 @@ hexFrom n (b ∷ digits) =
     if ltb (digitOf b) 16 then hexFrom (16 * n + digitOf b) digits
     else NoNumber
 
--- the number that digits write
+-- the number that digits write, of which 64 bits have 16
 abbrev pub hexOf : List ℕ → Written
-hexOf digits = hexFrom 0 digits
+hexOf digits =
+    if ltb 16 (length digits) then NoNumber
+    else hexFrom 0 digits

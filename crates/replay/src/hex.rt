@@ -1,19 +1,19 @@
 // Numbers in hex digits, as a line has them.
 ghost use mathlib.Core.Path.{_≡_};
-ghost use Prim.Native.Nat.{_≤_};
-ghost use lib.ListN.{length};
 ghost use Rattle.replay.specs.Hex.{digitOf, hexOf};
 
-// The number that digits write, where all of them are digits.
+// The number that digits write, where all of them are digits and there are at most 16.
 pub enum Written {
     Number(u64),
     NoNumber,
 }
 
 pub fn number(digits: &[u8]) -> Written
-    requires { ⌜ length (now digits) ≤ 16 ⌝ }
     ensures { λ r. ⌜ r ≡ hexOf (now (digits .entry)) ⌝ }
 {
+    if 16 < digits.len() {
+        return Written::NoNumber;
+    }
     let mut n: u64 = 0;
     let mut i = 0;
     while i < digits.len() {
