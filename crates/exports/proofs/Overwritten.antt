@@ -1,30 +1,18 @@
 -- A buffer whose first bytes are written in turn by a rule; for any rule. Assumes nothing.
 use mathlib.Core.Path.{_≡_, refl, sym, ap, _∙_}
 use mathlib.Core.Logic.{_⊎_, inl, inr, ⊎-elim}
-use mathlib.Core.List.{List, [], _∷_, _++_}
-use Prim.Native.Nat.{ℕ, zero, suc, _+_, _-_, _≤_, _<_}
-use native.Mathlib.Nat.{add-zero, zero-add, ne-of-lt, le-of-suc-le-suc, not-suc-le-zero, eq-or-lt-of-le}
-use native.Mathlib.Numerals.{add-one}
+use mathlib.Core.List.{List, _++_}
+use Prim.Native.Nat.{ℕ, _+_, _-_, _≤_, _<_}
+use native.Mathlib.Nat.{ne-of-lt, eq-or-lt-of-le}
 use native.Mathlib.Omega.{arith}
 use mathlib.Core.Bool.{Bool, true, false}
 use lib.Dec.{ltb}
 use borrow.Author.Tests.{ltb-true, ltb-false}
 use lib.ListN.{length, getD, set, drop, length-append, length-drop, length-set, List·getD-append}
 use lib.Seq.{getD-set-same, getD-set-other, getD-append-add, getD-drop, ext-getD}
-use Rattle.exports.specs.Tables.{listedBytes, overwritten}
-
-listed-length : (f : ℕ → ℕ) (a n : ℕ) → length (listedBytes f a n) ≡ n
-unfolding listedBytes
-listed-length f a zero = refl
-listed-length f a (suc n) = ap suc (listed-length f (a + 1) n)
-
-listed-at : (f : ℕ → ℕ) (a n k : ℕ) → k < n → getD (listedBytes f a n) k 0 ≡ f (a + k)
-unfolding listedBytes
-listed-at f a zero k h = absurd (not-suc-le-zero h)
-listed-at f a (suc n) zero h = ap f (sym (add-zero a))
-listed-at f a (suc n) (suc k) h =
-    let s : a + 1 + k ≡ a + suc k = omega arith in
-    listed-at f (a + 1) n k (le-of-suc-le-suc h) ∙ ap f s
+use Rattle.rate_tables.specs.Tables.{listed}
+use Rattle.rate_tables.proofs.Filled.{listed-length, level-at}
+use Rattle.exports.specs.Tables.{overwritten}
 
 module _ (f : ℕ → ℕ) (n : ℕ) (out : List ℕ) where
   pub over-length : n ≤ length out → length (overwritten f n out) ≡ length out
@@ -34,18 +22,18 @@ module _ (f : ℕ → ℕ) (n : ℕ) (out : List ℕ) where
   -- below n the rule, from n on the old byte
   over-low : (j : ℕ) → j < n → getD (overwritten f n out) j 0 ≡ f j
   unfolding overwritten
-  over-low j h = let l : j < length (listedBytes f 0 n) = omega (arith, listed-length f 0 n) in List·getD-append (listedBytes f 0 n) (drop n out) 0 j l ∙ listed-at f 0 n j h ∙ ap f (zero-add j)
+  over-low j h = let l : j < length (listed f 0 n) = omega (arith, listed-length f 0 n) in List·getD-append (listed f 0 n) (drop n out) 0 j l ∙ level-at f 0 n j h
 
   over-high : (j : ℕ) → n ≤ j → getD (overwritten f n out) j 0 ≡ getD out j 0
   unfolding overwritten
   over-high j h =
-      let e : length (listedBytes f 0 n) + (j - n) ≡ j = omega (arith, listed-length f 0 n) in
+      let e : length (listed f 0 n) + (j - n) ≡ j = omega (arith, listed-length f 0 n) in
       let s : n + (j - n) ≡ j = omega arith in
-      ap (λ (i : ℕ). getD (listedBytes f 0 n ++ drop n out) i 0) (sym e) ∙ getD-append-add (listedBytes f 0 n) (drop n out) (j - n) 0 ∙ getD-drop n out (j - n) 0 ∙ ap (λ (i : ℕ). getD out i 0) s
+      ap (λ (i : ℕ). getD (listed f 0 n ++ drop n out) i 0) (sym e) ∙ getD-append-add (listed f 0 n) (drop n out) (j - n) 0 ∙ getD-drop n out (j - n) 0 ∙ ap (λ (i : ℕ). getD out i 0) s
 
 -- nothing written
 pub over-none : (f : ℕ → ℕ) (out : List ℕ) → out ≡ overwritten f 0 out
-unfolding overwritten listedBytes
+unfolding overwritten listed
 over-none f out = refl
 
 -- one byte more

@@ -1,10 +1,11 @@
 -- The tables of a pair of rates as bytes, as `consensus_tables` hands them out. Definitions only.
-use Prim.Native.Nat.{ℕ, zero, suc, _+_, _-_, _/_, _%_, _^_}
-use mathlib.Core.List.{List, [], _∷_, _++_}
+use Prim.Native.Nat.{ℕ, _-_, _/_, _%_, _^_}
+use mathlib.Core.List.{List, _++_}
 use lib.Dec.{ltb, leb}
 use lib.ListN.{length, getD, drop}
 use lib.Ieee.{Float, nan, binary64, toBits}
 use Rattle.float.specs.Ops.{if_then_else_}
+use Rattle.rate_tables.specs.Tables.{listed}
 use Rattle.rate_tables.specs.Adjusted.{adjustedTables}
 use Rattle.rate_tables.specs.Gaps.{gapTables}
 
@@ -36,14 +37,9 @@ tableByte pre post =
     let g = gapTables pre in
     numberByte (a .correct) (a .«error_per_alt») (g .thresholds) (g .«cerr_min») (g .cap)
 
--- f a, f (a + 1) and so on, n of them
-unfoldable pub listedBytes : (ℕ → ℕ) → ℕ → ℕ → List ℕ
-listedBytes f a zero = []
-listedBytes f a (suc n) = f a ∷ listedBytes f (a + 1) n
-
 -- the first n bytes of a buffer by a rule, the others as they were
 unfoldable pub overwritten : (ℕ → ℕ) → ℕ → List ℕ → List ℕ
-overwritten f n out = listedBytes f 0 n ++ drop n out
+overwritten f n out = listed f 0 n ++ drop n out
 
 -- what the buffer holds afterwards: the bytes, or what it held where it is too short
 unfoldable pub writtenOf : ℕ → ℕ → List ℕ → List ℕ

@@ -10,22 +10,22 @@ use borrow.Author.Count.{below-more}
 use lib.Ieee.{Float, nan}
 use Rattle.rate_tables.specs.Tables.{listed}
 
-pub listed-length : (f : ℕ → Float) (a n : ℕ) → length (listed f a n) ≡ n
+pub listed-length : {A : Type 0} (f : ℕ → A) (a n : ℕ) → length (listed f a n) ≡ n
 unfolding listed
 listed-length f a zero = refl
 listed-length f a (suc n) = ap suc (listed-length f (a + 1) n)
 
-pub listed-at : (f : ℕ → Float) (a n k : ℕ) → k < n → getD (listed f a n) k nan ≡ f (a + k)
+pub listed-at : {A : Type 0} (f : ℕ → A) (d : A) (a n k : ℕ) → k < n → getD (listed f a n) k d ≡ f (a + k)
 unfolding listed
-listed-at f a zero k h = absurd (not-suc-le-zero h)
-listed-at f a (suc n) zero h = ap f (sym (add-zero a))
-listed-at f a (suc n) (suc k) h =
+listed-at f d a zero k h = absurd (not-suc-le-zero h)
+listed-at f d a (suc n) zero h = ap f (sym (add-zero a))
+listed-at f d a (suc n) (suc k) h =
     let s : a + 1 + k ≡ a + suc k = omega arith in
-    listed-at f (a + 1) n k (le-of-suc-le-suc h) ∙ ap f s
+    listed-at f d (a + 1) n k (le-of-suc-le-suc h) ∙ ap f s
 
--- the entry of a level
-pub level-at : (f : ℕ → Float) (n k : ℕ) → k < n → getD (listed f 0 n) k nan ≡ f k
-level-at f n k h = listed-at f 0 n k h ∙ ap f (zero-add k)
+-- the entry at a place
+pub level-at : {A : Type 0} (f : ℕ → A) (d : A) (n k : ℕ) → k < n → getD (listed f 0 n) k d ≡ f k
+level-at f d n k h = listed-at f d 0 n k h ∙ ap f (zero-add k)
 
 -- the places below q hold what the rule says
 abbrev pub Filled : (ℕ → Float) → List Float → ℕ → Type 0
@@ -40,4 +40,4 @@ filled-more f a q v h e g =
 pub filled-all : (f : ℕ → Float) (a : List Float) (n q : ℕ) → length a ≡ n → n ≤ q → Filled f a q → a ≡ listed f 0 n
 filled-all f a n q e h g =
     ext-getD nan a (listed f 0 n) (e ∙ sym (listed-length f 0 n))
-    (λ k l. let m : k < n = omega arith in g k (omega arith) ∙ sym (level-at f n k m))
+    (λ k l. let m : k < n = omega arith in g k (omega arith) ∙ sym (level-at f nan n k m))

@@ -4,7 +4,7 @@ use mathlib.Core.List.{List, [], _∷_}
 use lib.Ieee.{Float}
 
 -- f a, f (a + 1) and so on, n of them
-unfoldable pub listed : (ℕ → Float) → ℕ → ℕ → List Float
+unfoldable pub listed : {A : Type 0} → (ℕ → A) → ℕ → ℕ → List A
 listed f a zero = []
 listed f a (suc n) = f a ∷ listed f (a + 1) n
 
