@@ -8,18 +8,15 @@ use lib.Ieee.{Float, nan}
 use Rattle.float.specs.Ops.{nought, if_then_else_}
 use Rattle.phred.specs.Phred.{phredToLnErrorProb}
 use Rattle.phred.specs.declared.LogProbability.{LogProbability}
-use Rattle.base_builder.specs.declared.tie_rule.TieRule.{TieRule}
-use Rattle.base_builder.specs.declared.tie_rule.TieRule.the-variants.{UlpRelative, FgbioCompat}
+use Rattle.tie_rules.specs.declared.tie_rule.TieRule.{TieRule}
+use Rattle.tie_rules.specs.declared.tie_rule.TieRule.the-variants.{UlpRelative, FgbioCompat}
 use Rattle.base_builder.specs.declared.observation.Sum.{Sum}
 use Rattle.base_builder.specs.declared.builder.ConsensusBaseBuilder.{ConsensusBaseBuilder}
 use Rattle.base_builder.specs.declared.builder.Answer.{Answer}
 use Rattle.base_builder.specs.declared.builder.Answer.the-variants.{Accepted, Refused}
-use Rattle.base_builder.specs.Lanes.{lanes, lane, noLane, laneOfByte}
+use Rattle.lane_calls.specs.Unanimous.{counted}
+use Rattle.tie_rules.specs.Lanes.{lanes, lane, noLane, laneOfByte}
 use Rattle.base_builder.specs.Observation.{movedBy, valueOf, countOf}
-
--- the count of lane i
-abbrev pub counted : List ℕ → ℕ → ℕ
-counted ns i = getD ns i 0
 
 -- all counts together
 unfoldable pub total : List ℕ → ℕ

@@ -1,4 +1,3 @@
-pub mod Lanes
-pub mod Ties
 pub mod Observation
 pub mod Builder
+pub mod Calls

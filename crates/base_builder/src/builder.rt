@@ -6,14 +6,14 @@ ghost use Prim.Native.Nat.{_<_};
 ghost use Rattle.base_builder.specs.Builder.{total as totalOf, cleared as clearedOf, newAt, withRule, resetOf, movedLane, sumOf, observed as observedOf, isFull, entryOf, added, answerOf, contributionsOf, observationsForBase};
 use crate::observation::Sum;
 use crate::observation::count;
-use crate::observation::lane_of;
 use crate::observation::moved;
 use crate::observation::value;
-use crate::tie_rule::NO_LANE;
-use crate::tie_rule::TieRule;
 use phred::LogProbability;
 use phred::PhredScore;
 use rate_tables::AdjustedProbabilityTables;
+use tie_rules::NO_LANE;
+use tie_rules::TieRule;
+use tie_rules::lane_of;
 
 pub struct ConsensusBaseBuilder {
     // The logarithm of the likelihood of A, C, G and T, and its compensation.

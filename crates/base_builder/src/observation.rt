@@ -1,22 +1,6 @@
 // What one observation does to one lane.
 ghost use mathlib.Core.Path.{_≡_};
-ghost use Prim.Native.Nat.{_<_};
-ghost use Rattle.base_builder.specs.Lanes.{laneOfByte};
 ghost use Rattle.base_builder.specs.Observation.{valueOf, movedBy, countOf};
-use crate::tie_rule::NO_LANE;
-
-// The lane of a byte: ACGTacgt, and NO_LANE for any other.
-pub fn lane_of(base: u8) -> usize
-    ensures { λ r. ⌜ r ≡ laneOfByte base ⌝ }
-{
-    match base {
-        b'A' | b'a' => 0,
-        b'C' | b'c' => 1,
-        b'G' | b'g' => 2,
-        b'T' | b't' => 3,
-        _ => NO_LANE,
-    }
-}
 
 // A lane's running sum and its compensation.
 pub struct Sum {

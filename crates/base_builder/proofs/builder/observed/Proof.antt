@@ -1,5 +1,5 @@
 -- `observed`: the four lanes, and the four counts. Assumes nothing.
-use Rattle.base_builder.specs.Lanes.{lanes}
+use Rattle.tie_rules.specs.Lanes.{lanes}
 use Rattle.base_builder.specs.Builder.{observed}
 use borrow.Author.Needs.{needs}
 use Rattle.base_builder.proofs.builder.observed.Statement.{statement}

@@ -1,7 +1,7 @@
 -- `new`: cleared, under the default rule. Assumes nothing.
 use mathlib.Core.Path.{ap, _∙_}
 use lib.Ieee.{Float}
-use Rattle.base_builder.specs.declared.tie_rule.TieRule.the-variants.{FgbioCompat}
+use Rattle.tie_rules.specs.declared.tie_rule.TieRule.the-variants.{FgbioCompat}
 use Rattle.base_builder.specs.Builder.{cleared, newAt}
 use borrow.Author.Needs.{needs}
 use Rattle.base_builder.proofs.builder.ConsensusBaseBuilder.new.Statement.{statement}

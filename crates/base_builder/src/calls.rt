@@ -1,0 +1,95 @@
+// The call of a position: a shortcut where one replies, and else the long calculation.
+ghost use mathlib.Core.Path.{_≡_};
+ghost use Rattle.lane_calls.specs.Calls.{repliedOr};
+ghost use Rattle.lane_calls.specs.Unanimous.{tablesOf};
+ghost use Rattle.base_builder.specs.Calls.{unanimousOf, multibaseOf, callFullOf, longWay, callOf};
+use crate::builder::ConsensusBaseBuilder;
+use lane_calls::Call;
+use lane_calls::Reply;
+use rate_tables::UnanimousGapTables;
+
+impl ConsensusBaseBuilder {
+    // The shortcut where one base alone was observed. The tables are copied: a loop takes the form
+    // that borrows them.
+    pub fn try_unanimous_fast_path(self, tables: UnanimousGapTables) -> Reply
+        ensures { λ r. ⌜ r ≡ unanimousOf tables self ⌝ }
+    {
+        let thresholds = tables.thresholds;
+        let cerr_min = tables.cerr_min;
+        let cap = tables.cap;
+        try_unanimous_fast_path_with(self, &thresholds, &cerr_min, cap)
+    }
+
+    // The shortcut where two or more bases were observed.
+    pub fn try_multibase_fast_path(self) -> Reply
+        ensures { λ r. ⌜ r ≡ multibaseOf self ⌝ }
+    {
+        let likelihoods = self.likelihoods;
+        let rule = self.tie_rule;
+        let pre = self.ln_error_pre_umi;
+        lane_calls::try_multibase_fast_path(likelihoods, rule, pre)
+    }
+
+    // The long calculation, which asks neither.
+    pub fn call_full(self) -> Call
+        ensures { λ r. ⌜ r ≡ callFullOf self ⌝ }
+    {
+        let likelihoods = self.likelihoods;
+        let rule = self.tie_rule;
+        let pre = self.ln_error_pre_umi;
+        lane_calls::call_full(likelihoods, rule, pre)
+    }
+
+    // The base and its quality. The tables are copied: a loop takes `call_with`.
+    pub fn call(self, tables: UnanimousGapTables) -> Call
+        ensures { λ r. ⌜ r ≡ callOf tables self ⌝ }
+    {
+        let thresholds = tables.thresholds;
+        let cerr_min = tables.cerr_min;
+        let cap = tables.cap;
+        call_with(self, &thresholds, &cerr_min, cap)
+    }
+}
+
+// The shortcut where one base alone was observed, with the tables lent.
+pub fn try_unanimous_fast_path_with(
+    builder: ConsensusBaseBuilder,
+    thresholds: &[f64; 94],
+    cerr_min: &[f64; 94],
+    cap: usize,
+) -> Reply
+    ensures { λ r. ⌜ r ≡ unanimousOf (tablesOf (now (thresholds .entry)) (now («cerr_min» .entry)) cap) builder ⌝ }
+{
+    let likelihoods = builder.likelihoods;
+    let observations = builder.observations;
+    let rule = builder.tie_rule;
+    lane_calls::try_unanimous_fast_path(likelihoods, observations, rule, thresholds, cerr_min, cap)
+}
+
+// Where the first shortcut does not reply.
+fn long_way(builder: ConsensusBaseBuilder) -> Call
+    ensures { λ r. ⌜ r ≡ longWay builder ⌝ }
+{
+    match builder.try_multibase_fast_path() {
+        Reply::Replied(short) => short,
+        Reply::Deferred => builder.call_full(),
+    }
+}
+
+// The base and its quality, with the tables lent.
+pub fn call_with(
+    builder: ConsensusBaseBuilder,
+    thresholds: &[f64; 94],
+    cerr_min: &[f64; 94],
+    cap: usize,
+) -> Call
+    ensures { λ r. ⌜ r ≡ callOf (tablesOf (now (thresholds .entry)) (now («cerr_min» .entry)) cap) builder ⌝ }
+{
+    if builder.contributions() == 0 {
+        return lane_calls::no_call();
+    }
+    match try_unanimous_fast_path_with(builder, thresholds, cerr_min, cap) {
+        Reply::Replied(short) => short,
+        Reply::Deferred => long_way(builder),
+    }
+}

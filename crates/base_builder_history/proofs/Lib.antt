@@ -1,0 +1,10 @@
+pub mod Run
+pub mod Laws
+pub mod Scan
+pub mod Gap
+pub mod Named
+pub mod OwnTables
+pub mod Replies
+pub mod Demand1
+pub mod SameBase
+pub mod Demand3

@@ -1,0 +1,5 @@
+pub mod Calls
+pub mod Search
+pub mod Unanimous
+pub mod Multibase
+pub mod Full

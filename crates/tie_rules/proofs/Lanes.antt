@@ -1,0 +1,36 @@
+-- What the definitions on lanes say of an arbitrary lane. Assumes nothing.
+use mathlib.Core.Path.{_≡_, refl, ap, subst}
+use mathlib.Core.Bool.{Bool, true, false, _&&_}
+use mathlib.Core.Logic.{⊎-elim}
+use Prim.Native.Nat.{ℕ, zero, suc, _+_, _<_}
+use native.Mathlib.Nat.{eq-or-lt-of-le, le-of-suc-le-suc, not-suc-le-zero}
+use native.Mathlib.Numerals.{add-one}
+use native.Mathlib.Omega.{arith}
+use lib.ListN.{getD}
+use Rattle.float.proofs.Cases.{and-false}
+use Rattle.tie_rules.specs.Lanes.{lanes, allBelow}
+
+-- one more lane of which the claim holds
+pub below-on : (j : ℕ) (p : ℕ → Bool) → allBelow j p ≡ true → p j ≡ true → allBelow (j + 1) p ≡ true
+unfolding allBelow
+below-on j p h e = rw (add-one j, h) e
+
+-- all lanes have been passed
+pub below-end : (p : ℕ → Bool) {j n : ℕ} → j ≡ n → allBelow j p ≡ true → allBelow n p ≡ true
+below-end p e h = subst (λ (k : ℕ). allBelow k p ≡ true) e h
+
+-- a lane of which it does not hold
+pub below-stop : (n : ℕ) (p : ℕ → Bool) (j : ℕ) → j < n → p j ≡ false → allBelow n p ≡ false
+unfolding allBelow
+below-stop zero p j h e = absurd (not-suc-le-zero h)
+below-stop (suc n) p j h e =
+    ⊎-elim (λ k. rw (subst (λ (i : ℕ). p i ≡ false) k e) (and-false (allBelow n p))) (λ k. rw (below-stop n p j k e)) (eq-or-lt-of-le (le-of-suc-le-suc h))
+
+-- what lane i of four holds
+pub lanes-at : {A : Type 0} (f : ℕ → A) (d : A) (i : ℕ) → i < 4 → getD (lanes f) i d ≡ f i
+unfolding lanes
+lanes-at f d zero h = refl
+lanes-at f d (suc zero) h = refl
+lanes-at f d (suc (suc zero)) h = refl
+lanes-at f d (suc (suc (suc zero))) h = refl
+lanes-at f d (suc (suc (suc (suc i)))) h = absurd (omega arith)

@@ -1,0 +1,63 @@
+-- `fgbio_scan`: after i turns it is the scan of the first i lanes. Assumes nothing.
+use mathlib.Core.Path.{_≡_, refl, _∙_, ap}
+use Prim.Native.Nat.{_+_, _-_, _≤_}
+use native.Mathlib.Numerals.{add-one}
+use native.Mathlib.Omega.{arith}
+use borrow.Author.Needs.{needs}
+use Rattle.tie_rules.specs.declared.tie_rule.Run.{Run}
+use Rattle.tie_rules.specs.Lanes.{lane}
+use Rattle.tie_rules.specs.Ties.{fgbioStep, scan, unseen}
+use Rattle.tie_rules.proofs.tie_rule.fgbio_scan.Statement.{statement}
+use Rattle.tie_rules.proofs.tie_rule.fgbio_scan.Tie as tie
+
+abbrev Inv-loop : tie.InvT-loop
+Inv-loop likelihoods run₀ i₀ run i = (i ≤ 4) × (run ≡ scan fgbioStep unseen likelihoods i)
+
+abbrev μ-loop : tie.MeasureT-loop
+μ-loop likelihoods run₀ i₀ run i = 4 - i
+
+loop-holds : tie.Need-loop-holds Inv-loop μ-loop
+unfolding scan
+loop-holds c = (omega arith, refl)
+
+mul-fgbio-step : tie.Need-mul-fgbio-step Inv-loop μ-loop
+mul-fgbio-step c = search needs
+
+array-read-fgbio-step : tie.Need-array-read-fgbio-step Inv-loop μ-loop
+array-read-fgbio-step c = search needs
+
+fgbio-step-requires : tie.Need-fgbio-step-requires Inv-loop μ-loop
+fgbio-step-requires c κs = search needs
+
+add-i : tie.Need-add-i Inv-loop μ-loop
+add-i c = omega arith
+
+loop-less : tie.Need-loop-less Inv-loop μ-loop
+loop-less c = omega arith
+
+loop-again : tie.Need-loop-again Inv-loop μ-loop
+unfolding scan
+loop-again c =
+    let l = c .before .before .loop in
+    (omega arith, rw (add-one (l .i)) (c .fgbio-step .ensures ∙ ap (λ (r : Run). fgbioStep r (l .i) (lane (c .before .before .before .args .t1) (l .i))) (l .inv .1)))
+
+returns : tie.Need-returns Inv-loop μ-loop
+returns c =
+    let l = c .before .loop in
+    let i : l .i ≡ 4 = omega arith in
+    l .inv .1 ∙ ap (scan fgbioStep unseen (c .before .before .args .t1)) i
+
+pub fgbio-scan-spec : {M : Type 1} → statement M
+fgbio-scan-spec =
+    tie.close
+    (tie.spec
+    Inv-loop
+    μ-loop
+    loop-holds
+    mul-fgbio-step
+    array-read-fgbio-step
+    fgbio-step-requires
+    add-i
+    loop-less
+    loop-again
+    returns)

@@ -1,0 +1,32 @@
+-- `unique_max_index`: a maximum that is finite and alone. Assumes nothing.
+use borrow.Author.Tests.{not-true, not-false}
+use Rattle.tie_rules.specs.Ties.{uniqueMaxIndex}
+use borrow.Author.Needs.{needs}
+use Rattle.tie_rules.proofs.tie_rule.unique_max_index.Statement.{statement}
+use Rattle.tie_rules.proofs.tie_rule.unique_max_index.Tie as tie
+
+ulp-scan-requires : tie.Need-ulp-scan-requires
+ulp-scan-requires c κs = search needs
+
+is-finite-requires : tie.Need-is-finite-requires
+is-finite-requires c κs = search needs
+
+returns : tie.Need-returns
+unfolding uniqueMaxIndex
+returns c = rw (← c .before .before .ulp-scan .ensures, ← c .before .is-finite .ensures, not-true (c .before .is-finite .result) (c .if1 .taken))
+
+untied-requires : tie.Need-untied-requires
+untied-requires c κs = search needs
+
+returns-2 : tie.Need-returns-2
+unfolding uniqueMaxIndex
+returns-2 c = rw (← c .before .before .before .before .ulp-scan .ensures, ← c .before .before .before .is-finite .ensures, not-false (c .before .before .before .is-finite .result) (c .before .before .if1 .left), ← c .before .untied .ensures, c .if2 .taken)
+
+returns-3 : tie.Need-returns-3
+unfolding uniqueMaxIndex
+returns-3 c = rw (← c .before .before .before .before .ulp-scan .ensures, ← c .before .before .before .is-finite .ensures, not-false (c .before .before .before .is-finite .result) (c .before .before .if1 .left), ← c .before .untied .ensures, c .if2 .left)
+
+pub unique-max-index-spec : {M : Type 1} → statement M
+unique-max-index-spec =
+    tie.close
+    (tie.spec ulp-scan-requires is-finite-requires returns untied-requires returns-2 returns-3)

@@ -1,0 +1,112 @@
+-- The two tie rules: when two lanes tie, and the lane that each rule names. Definitions only.
+use Prim.Native.Nat.{ℕ, zero, suc, _+_, _^_}
+use mathlib.Core.Bool.{Bool, true, false, not, _&&_, _||_, Bool·beq}
+use mathlib.Core.List.{List}
+use lib.Dec.{leb, ltb, eqb}
+use lib.Ieee.{Float, binary64, toBits, lt, le, eq, isNan}
+use lib.Ieee.Scale.{finite}
+use Rattle.float.specs.Ops.{_⊖_, bits, nought, if_then_else_}
+use Rattle.float.specs.Methods.{absOf}
+use Rattle.phred.specs.Phred.{lnZero}
+use Rattle.tie_rules.specs.declared.tie_rule.Run.{Run}
+use Rattle.tie_rules.specs.declared.tie_rule.TieRule.{TieRule}
+use Rattle.tie_rules.specs.declared.tie_rule.TieRule.the-variants.{UlpRelative, FgbioCompat}
+use Rattle.tie_rules.specs.Lanes.{lane, noLane, allBelow}
+
+-- ---- when two lanes tie
+
+-- under FgbioCompat: within 2^-52
+unfoldable pub fgbioTie : Float → Float → Bool
+fgbioTie x y = le (absOf (x ⊖ y)) (bits 0x3cb0_0000_0000_0000)
+
+-- bit patterns of the same sign, within 4 of each other
+unfoldable pub nearPatterns : ℕ → ℕ → Bool
+nearPatterns a b = Bool·beq (leb (2 ^ 63) a) (leb (2 ^ 63) b) && (leb a (b + 4) && leb b (a + 4))
+
+-- under UlpRelative: equal, or of the same sign and within 4 units in the last place; a NaN ties with nothing
+unfoldable pub ulpTie : Float → Float → Bool
+ulpTie x y =
+    if eq x y then true
+    else if isNan x then false
+    else if isNan y then false
+    else nearPatterns (toBits binary64 x) (toBits binary64 y)
+
+-- of two lanes as FgbioCompat tests them: the later ties with the earlier where it is not above it and is within 2^-52
+unfoldable pub fgbioTested : Float → Float → Bool
+fgbioTested earlier later = not (lt earlier later) && fgbioTie later earlier
+
+-- lane j, of the value x, ties with lane i, of the value m, as the rule tests it
+unfoldable pub tiesWith : TieRule → ℕ → Float → ℕ → Float → Bool
+tiesWith UlpRelative i m j x = ulpTie x m
+tiesWith FgbioCompat i m j x =
+    if ltb i j then fgbioTested m x
+    else fgbioTested x m
+
+-- no lane but i, of the value m, ties with it as the rule tests it
+unfoldable pub untied : TieRule → List Float → ℕ → Float → Bool
+untied rule xs i m = allBelow 4 (λ j. eqb i j || not (tiesWith rule i m j (lane xs j)))
+
+-- no lane is above the value m
+unfoldable pub noneAbove : List Float → Float → Bool
+noneAbove xs m = allBelow 4 (λ j. not (lt m (lane xs j)))
+
+-- ---- the scan from lane to lane: whether a lane was taken, the running maximum, and its lane
+
+-- lane k, of the value x, takes over
+abbrev pub taken : Float → ℕ → Run
+taken x k = record { seen = true; best = x; at = k }
+
+-- the running maximum stays, and is cancelled
+abbrev pub cancelled : Run → Run
+cancelled r = record { seen = r .seen; best = r .best; at = noLane }
+
+-- One lane under FgbioCompat: a NaN is skipped; the first, and any above the running maximum, takes over, also after a cancellation; any other that
+-- ties with it cancels it.
+unfoldable pub fgbioStep : Run → ℕ → Float → Run
+fgbioStep r k x =
+    if isNan x then r
+    else if not (r .seen) || lt (r .best) x then taken x k
+    else if fgbioTie x (r .best) then cancelled r
+    else r
+
+-- one lane under UlpRelative: any above the running maximum takes over
+unfoldable pub ulpStep : Run → ℕ → Float → Run
+ulpStep r k x =
+    if lt (r .best) x then taken x k
+    else r
+
+-- the first n lanes
+unfoldable pub scan : (Run → ℕ → Float → Run) → Run → List Float → ℕ → Run
+scan step r xs zero = r
+scan step r xs (suc n) = step (scan step r xs n) n (lane xs n)
+
+-- before the first lane: nothing taken, and a maximum of -infinity
+abbrev pub unseen : Run
+unseen = record { seen = false; best = nought; at = noLane }
+
+abbrev pub lowest : Run
+lowest = record { seen = false; best = lnZero; at = noLane }
+
+-- ---- the lane that a rule names
+
+-- fgbio's: the lane of the maximum, none after a cancellation
+unfoldable pub fgbioUniqueMaxIndex : List Float → ℕ
+fgbioUniqueMaxIndex xs = scan fgbioStep unseen xs 4 .at
+
+-- the lane of the maximum, if that is finite and no other lane ties with it
+unfoldable pub uniqueMaxIndex : List Float → ℕ
+uniqueMaxIndex xs =
+    let r = scan ulpStep lowest xs 4 in
+    if finite (r .best) && untied UlpRelative xs (r .at) (r .best) then r .at
+    else noLane
+
+-- a winning -infinity is no call
+unfoldable pub notMinusInfinity : List Float → ℕ → ℕ
+notMinusInfinity xs i =
+    if ltb i 4 && eq (lane xs i) lnZero then noLane
+    else i
+
+-- by the rule
+unfoldable pub uniqueMaxIndexWith : List Float → TieRule → ℕ
+uniqueMaxIndexWith xs UlpRelative = uniqueMaxIndex xs
+uniqueMaxIndexWith xs FgbioCompat = notMinusInfinity xs (fgbioUniqueMaxIndex xs)

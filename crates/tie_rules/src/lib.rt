@@ -1,0 +1,16 @@
+// The lanes of a position and the rules that name one of them, the first part of base_builder.rs.
+mod lane;
+mod tie_rule;
+
+pub use lane::NO_LANE;
+pub use lane::base_of;
+pub use lane::lane_of;
+pub use tie_rule::TieRule;
+pub use tie_rule::fgbio_tie;
+pub use tie_rule::fgbio_unique_max_index;
+pub use tie_rule::none_above;
+pub use tie_rule::ties_with;
+pub use tie_rule::ulp_tie;
+pub use tie_rule::unique_max_index;
+pub use tie_rule::unique_max_index_with;
+pub use tie_rule::untied;
