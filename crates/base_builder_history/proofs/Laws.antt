@@ -1,50 +1,97 @@
--- After any list of events, for an arbitrary lane: what it holds depends on its own values alone; its count is the number of observations of its base that
--- were counted since the last reset; and lanes that were not observed are alike. Assumes nothing.
+-- The laws of every list of events. Assumes nothing.
 use mathlib.Core.Path.{_≡_, refl, sym, ap, _∙_}
 use mathlib.Core.Bool.{Bool, true, false}
 use mathlib.Core.List.{List, [], _∷_}
-use Prim.Native.Nat.{ℕ, _+_, _<_}
+use Prim.Native.Nat.{ℕ, _+_, _%_, _^_, _≤_, _<_}
 use native.Mathlib.Omega.{arith}
 use lib.Dec.{eqb}
-use lib.Ieee.{Float}
-use Rattle.float.specs.Ops.{if_then_else_}
-use Rattle.rate_tables.specs.declared.adjusted.AdjustedProbabilityTables.{AdjustedProbabilityTables}
+use lib.ListN.{length}
+use lib.Ieee.{Float, lt, le, eq, sub, neg, div, isNan, ofBits, toBits}
+use borrow.Author.Tests.{eqb-true}
+use Rattle.float.specs.Ops.{nought, if_then_else_}
+use Rattle.float.specs.Methods.{absOf}
+use Rattle.float.proofs.Cases.{choice}
 use Rattle.rate_tables.specs.Adjusted.{adjustedTables}
+use Rattle.rate_tables.specs.Gaps.{gapTables}
+use Rattle.tie_rules.specs.declared.tie_rule.Run.{Run}
 use Rattle.tie_rules.specs.declared.tie_rule.TieRule.{TieRule}
-use Rattle.tie_rules.specs.Lanes.{lane}
-use Rattle.lane_calls.specs.Unanimous.{counted}
+use Rattle.tie_rules.specs.declared.tie_rule.TieRule.the-variants.{UlpRelative, FgbioCompat}
+use Rattle.tie_rules.specs.Lanes.{lane, noLane, baseOf, allBelow}
+use Rattle.tie_rules.specs.Ties.{fgbioTie, fgbioStep, ulpStep, scan, unseen, taken, cancelled, tiesWith, ulpTie, untied, fgbioUniqueMaxIndex, uniqueMaxIndex, notMinusInfinity, uniqueMaxIndexWith}
+use Rattle.lane_calls.specs.declared.call.Call.{Call}
+use Rattle.lane_calls.specs.declared.call.Reply.{Reply}
+use Rattle.lane_calls.specs.declared.call.Reply.the-variants.{Replied, Deferred}
+use Rattle.lane_calls.specs.Calls.{noCall, repliedOr}
 use Rattle.base_builder.specs.declared.observation.Sum.{Sum}
-use Rattle.base_builder.specs.Observation.{valueOf}
-use Rattle.base_builder.specs.Builder.{sumOf}
+use Rattle.base_builder.specs.Builder.{total, contributionsOf}
+use Rattle.base_builder.specs.Calls.{unanimousOf, multibaseOf, callFullOf, longWay, callOf}
 use Rattle.base_builder_history.specs.History.{Event, after}
-use Rattle.base_builder_history.specs.Counted.{Observation, countedSince, valuesOf, kahan, timesOf}
+use Rattle.base_builder_history.specs.Counted.{Observation, countedSince, valuesOf, kahan}
+use Rattle.base_builder_history.specs.Demand3.{Agrees}
+use Rattle.base_builder_history.specs.Laws.{ruled, Laws}
 use Rattle.base_builder_history.proofs.Run.{Holds, after-holds}
+use Rattle.base_builder_history.proofs.Replies.{full-base}
+use Rattle.base_builder_history.proofs.SameBase.{unanimous-agrees, multibase-agrees}
 
-pub own-values : (pre post : ℕ) (rule : TieRule) (es : List Event) (i : ℕ) → i < 4 → sumOf (after pre post rule es) i ≡ kahan (valuesOf (adjustedTables post) i (countedSince [] es))
-own-values pre post rule es i h = after-holds pre post rule es .sums i h
+-- four lanes of 0 tie under either rule
+module _ (xs : List Float) (a : lane xs 0 ≡ nought) (c : lane xs 1 ≡ nought) (g : lane xs 2 ≡ nought) (t : lane xs 3 ≡ nought) where
+  -- another 0 after the first cancels it
+  fgbio-at : scan fgbioStep unseen xs 4 .at ≡ noLane
+  unfolding scan fgbioStep fgbioTie absOf lt le sub isNan ofBits
+  fgbio-at =
+      let first : scan fgbioStep unseen xs 1 ≡ taken nought 0 = ap (fgbioStep unseen 0) a in
+      let second : scan fgbioStep unseen xs 2 ≡ cancelled (taken nought 0) =
+      ap (λ (r : Run). fgbioStep r 1 (lane xs 1)) first ∙ ap (fgbioStep (taken nought 0) 1) c in
+      let third : scan fgbioStep unseen xs 3 ≡ cancelled (taken nought 0) =
+      ap (λ (r : Run). fgbioStep r 2 (lane xs 2)) second ∙ ap (fgbioStep (cancelled (taken nought 0)) 2) g in
+      ap (λ (r : Run). fgbioStep r 3 (lane xs 3) .at) third ∙ ap (λ (x : Float). fgbioStep (cancelled (taken nought 0)) 3 x .at) t
 
-pub count-law : (pre post : ℕ) (rule : TieRule) (es : List Event) (i : ℕ) → i < 4 → counted (after pre post rule es .observations) i ≡ timesOf i (countedSince [] es)
-count-law pre post rule es i h = after-holds pre post rule es .counts i h
+  no-lane : (rule : TieRule) → uniqueMaxIndexWith xs rule ≡ noLane
+  unfolding uniqueMaxIndexWith fgbioUniqueMaxIndex notMinusInfinity uniqueMaxIndex scan ulpStep untied tiesWith ulpTie allBelow lt eq neg div ofBits
+  no-lane UlpRelative = rw (a, c, g, t)
+  no-lane FgbioCompat = ap (notMinusInfinity xs) fgbio-at
 
--- none so far: not the latest, and none before
-none-yet : (c : Bool) (n : ℕ) → (if c then n + 1 else n) ≡ 0 → (c ≡ false) × (n ≡ 0)
-none-yet true n e = absurd (omega arith)
-none-yet false n e = (refl, e)
+none : (os : List Observation) → length os ≡ 0 → os ≡ []
+none [] e = refl
+none (o ∷ os) e = absurd (omega arith)
 
-values-alike : (t : AdjustedProbabilityTables) (i j : ℕ) (os : List Observation) → timesOf i os ≡ 0 → timesOf j os ≡ 0 → valuesOf t i os ≡ valuesOf t j os
-unfolding valuesOf timesOf valueOf
-values-alike t i j [] g h = refl
-values-alike t i j (o ∷ os) g h =
-    let x = none-yet (eqb i (o .at)) (timesOf i os) g in
-    let y = none-yet (eqb j (o .at)) (timesOf j os) h in
-    rw (x .0, y .0, values-alike t i j os (x .1) (y .1))
+module _ (pre post : ℕ) (rule : TieRule) (es : List Event) where
+  nothing-counted : contributionsOf (after pre post rule es) ≡ 0 → ruled (after pre post rule es) ≡ noLane
+  unfolding contributionsOf total valuesOf kahan
+  nothing-counted e =
+      let b = after pre post rule es in
+      let had = after-holds pre post rule es in
+      let n : total (b .observations) ≡ length (countedSince [] es) =
+      rw (had .counts 0 (omega arith), had .counts 1 (omega arith), had .counts 2 (omega arith), had .counts 3 (omega arith)) (had .all) in
+      let most = had .most in
+      let os = none (countedSince [] es) (omega arith) in
+      let at : (i : ℕ) → i < 4 → lane (b .likelihoods) i ≡ nought =
+      λ i h. ap (λ (s : Sum). s .lane) (had .sums i h ∙ ap (λ (l : List Observation). kahan (valuesOf (adjustedTables post) i l)) os) in
+      no-lane (b .likelihoods) (at 0 (omega arith)) (at 1 (omega arith)) (at 2 (omega arith)) (at 3 (omega arith)) (b .«tie_rule»)
 
-pub alike : (pre post : ℕ) (rule : TieRule) (es : List Event) (i j : ℕ) → i < 4 → j < 4
-    → let b = after pre post rule es in
-    counted (b .observations) i ≡ 0 → counted (b .observations) j ≡ 0 → lane (b .likelihoods) i ≡ lane (b .likelihoods) j
-alike pre post rule es i j g h m n =
-    let t = adjustedTables post in
-    let os = countedSince [] es in
+-- what agrees with the long calculation leads to its base
+or-same : (r : Reply) (c full : Call) → Agrees r full → c .base ≡ full .base → repliedOr r c .base ≡ full .base
+or-same (Replied short) c full a e = a
+or-same Deferred c full a e = e
+
+call-base : (pre post : ℕ) (rule : TieRule) (es : List Event) → callOf (gapTables pre) (after pre post rule es) .base ≡ baseOf (ruled (after pre post rule es))
+unfolding callOf longWay
+call-base pre post rule es =
+    let b = after pre post rule es in
+    let full = callFullOf b in
+    choice (λ (c : Call). c .base ≡ baseOf (ruled b)) (eqb (contributionsOf b) 0) noCall _
+    (λ h. ap baseOf (sym (nothing-counted pre post rule es (eqb-true (contributionsOf b) 0 h))))
+    (λ _.
+    or-same (unanimousOf (gapTables pre) b) (repliedOr (multibaseOf b) full) full (unanimous-agrees pre post rule es)
+    (or-same (multibaseOf b) full full (multibase-agrees b) refl)
+    ∙ full-base b)
+
+pub laws : (pre post : ℕ) (rule : TieRule) (es : List Event) → Laws pre post rule es
+laws pre post rule es =
     let had = after-holds pre post rule es in
-    let e = values-alike t i j os (sym (had .counts i g) ∙ m) (sym (had .counts j h) ∙ n) in
-    ap (λ (s : Sum). s .lane) (had .sums i g ∙ ap kahan e ∙ sym (had .sums j h))
+    record {
+      own-values = had .sums;
+      count = had .counts;
+      call-base = call-base pre post rule es;
+      nothing-counted = nothing-counted pre post rule es;
+    }

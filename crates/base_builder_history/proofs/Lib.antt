@@ -1,5 +1,5 @@
 pub mod Run
-pub mod Laws
+pub mod Lanes
 pub mod Scan
 pub mod Gap
 pub mod Named
@@ -8,3 +8,5 @@ pub mod Replies
 pub mod Demand1
 pub mod SameBase
 pub mod Demand3
+pub mod Laws
+pub mod Starred

@@ -25,11 +25,8 @@ use Rattle.lane_calls.specs.Multibase.{restBelow, magnitudeBelow, finalError, d
 use Rattle.lane_calls.specs.Full.{fullQuality, fullCall}
 use Rattle.base_builder.specs.declared.builder.ConsensusBaseBuilder.{ConsensusBaseBuilder}
 use Rattle.base_builder.specs.Calls.{unanimousOf, multibaseOf, callFullOf}
+use Rattle.base_builder_history.specs.Laws.{ruled}
 use Rattle.base_builder_history.proofs.OwnTables.{Names, gap-names}
-
--- the lane that the rule names on a builder
-abbrev pub ruled : ConsensusBaseBuilder → ℕ
-ruled b = uniqueMaxIndexWith (b .likelihoods) (b .«tie_rule»)
 
 -- what the unanimous shortcut asks of its lane
 abbrev pub asked : ConsensusBaseBuilder → Bool

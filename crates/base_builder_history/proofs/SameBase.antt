@@ -23,11 +23,12 @@ use Rattle.base_builder.specs.declared.builder.ConsensusBaseBuilder.{ConsensusB
 use Rattle.base_builder.specs.Calls.{unanimousOf, multibaseOf, callFullOf}
 use Rattle.base_builder_history.specs.History.{Event, after}
 use Rattle.base_builder_history.specs.Demand3.{Agrees}
-use Rattle.base_builder_history.proofs.Laws.{alike}
+use Rattle.base_builder_history.specs.Laws.{ruled}
+use Rattle.base_builder_history.proofs.Lanes.{alike}
 use Rattle.base_builder_history.proofs.Gap.{gap-lt}
 use Rattle.base_builder_history.proofs.Named.{below-at, other, named}
 use Rattle.base_builder_history.proofs.OwnTables.{Names}
-use Rattle.base_builder_history.proofs.Replies.{ruled, asked, unanimous-by, multibase-by, full-base}
+use Rattle.base_builder_history.proofs.Replies.{asked, unanimous-by, multibase-by, full-base}
 
 -- the others of a lane that alone was observed were not
 sole-others : (ns : List ℕ) → ltb (soleLane ns) 4 ≡ true → (j : ℕ) → j < 4 → j ≢ soleLane ns → counted ns j ≡ 0

@@ -2,3 +2,4 @@ pub mod History
 pub mod Counted
 pub mod Demand1
 pub mod Demand3
+pub mod Laws
