@@ -10,3 +10,4 @@ pub mod SameBase
 pub mod Demand3
 pub mod Laws
 pub mod Starred
+pub mod Corners

@@ -3,3 +3,4 @@ pub mod Counted
 pub mod Demand1
 pub mod Demand3
 pub mod Laws
+pub mod Corners

@@ -1,0 +1,23 @@
+-- Corners of base_builder.rs that are computed. Definitions only.
+use Prim.Native.Nat.{ℕ}
+use mathlib.Core.Bool.{Bool, Bool·beq}
+use mathlib.Core.List.{List, [], _∷_}
+use lib.Dec.{leb}
+use lib.Ieee.{Float, lt, eq}
+use Rattle.float.specs.Ops.{_⊖_, _⊘_, bits, whole}
+use Rattle.float.specs.Methods.{absOf}
+use Rattle.elementary.specs.Ln.{lnOf}
+use Rattle.phred.specs.Phred.{lnZero}
+use Rattle.rate_tables.specs.Adjusted.{correctAt, errorPerAltAt}
+
+-- at post-UMI rate 0 the matching lane gets -infinity at this quality exactly where it is 27 or more
+unfoldable pub sinksAt : ℕ → Bool
+sinksAt q = Bool·beq (eq (correctAt 0 q) lnZero) (leb 27 q)
+
+-- x is within 2^-50 of ln(m / n)
+unfoldable pub aboutLn : Float → ℕ → ℕ → Bool
+aboutLn x m n = lt (absOf (x ⊖ lnOf (whole m ⊘ whole n))) (bits 0x3cd0_0000_0000_0000)
+
+-- at post-UMI rate 0 and quality 0 it gets about ln(1/3), and the others about ln(2/9)
+abbrev pub atQuality0 : List Bool
+atQuality0 = aboutLn (correctAt 0 0) 1 3 ∷ aboutLn (errorPerAltAt 0 0) 2 9 ∷ []
