@@ -2,8 +2,8 @@
 ghost use mathlib.Core.Path.{_≡_};
 ghost use Prim.Native.Nat.{_≤_, _<_};
 ghost use lib.ListN.{length};
-ghost use lib.Ieee.{binary64, toBits};
 ghost use Rattle.exports.specs.Tables.{numberAt, byteOf, numberByte, overwritten, repliedOf, writtenOf};
+use float::pattern;
 use phred::PhredScore;
 use rate_tables::AdjustedProbabilityTables;
 
@@ -71,16 +71,6 @@ fn number<'a>(
         return pattern(cerr[j - 282]);
     }
     cap as u64
-}
-
-// The bit pattern of x; to_bits is not asked at a NaN, for which this one stands.
-fn pattern(x: f64) -> u64
-    ensures { λ r. ⌜ r ≡ toBits binary64 x ⌝ }
-{
-    if x != x {
-        return 0x7ff8_0000_0000_0000;
-    }
-    f64::to_bits(x)
 }
 
 // Byte i of n, the low byte first.

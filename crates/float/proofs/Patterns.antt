@@ -1,17 +1,17 @@
 -- What `f64::to_bits` and `f64::from_bits` ask, and a bit pattern without its sign. Assumes nothing.
-use mathlib.Core.Path.{_≡_, refl, ap, _∙_}
+use mathlib.Core.Path.{_≡_, refl, sym, ap, _∙_}
 use mathlib.Core.Bool.{Bool, true, false, not, true≢false}
-use Prim.Native.Nat.{ℕ, _*_, _^_, _%_, _<_}
+use Prim.Native.Nat.{ℕ, _*_, _^_, _%_, _≤_, _<_}
 use native.Mathlib.Omega.{arith}
 use lib.Dec.{T}
 use lib.IntN.{ℤ}
-use lib.Ieee.{Float, nan, inf, fin, neg, fits, ne, isNan, nanBits, binary64, ones, hid, top, ofBits, toBits}
+use lib.Ieee.{Float, nan, inf, fin, neg, fits, ne, isNan, nanBits, binary64, ones, hid, top, ofBits, toBits, div}
 use lib.Ieee.Fits.{neg-fits}
-use lib.Ieee.Bits.{nanBits-above, toBits-lt, ofBits-toBits}
-use borrow.Author.Tests.{le-ltb}
-use Rattle.float.specs.Ops.{bits}
+use lib.Ieee.Bits.{nanBits-is, nanBits-above, toBits-lt, ofBits-toBits}
+use borrow.Author.Tests.{lt-ltb, le-ltb}
+use Rattle.float.specs.Ops.{_⊘_, bits, nought}
 use Rattle.float.specs.Methods.{absOf}
-use Rattle.float.proofs.Order.{ne-self}
+use Rattle.float.proofs.Order.{ne-self, nan-alone}
 
 -- what does not differ from itself is no NaN
 pub number : (x : Float) → ne x x ≡ false → T (not (isNan x))
@@ -20,6 +20,15 @@ number x h = rw (← ne-self x, h) tt
 -- a pattern below the infinity's is no NaN's
 pub no-nan : (n : ℕ) → n < 2047 * 2 ^ 52 → T (not (nanBits binary64 n))
 no-nan n h = rw (nanBits-above, le-ltb (ones binary64 * hid binary64) (n % top binary64) (omega arith)) tt
+
+-- a pattern above it, the sign's bit aside, is a NaN's
+pub nan-pattern : (n : ℕ) → 0x7ff0_0000_0000_0000 < n % 0x8000_0000_0000_0000 → nought ⊘ nought ≡ bits n
+unfolding div ofBits
+nan-pattern n h = sym (nan-alone (bits n) (ne-self (bits n) ∙ sym (nanBits-is binary64 n) ∙ nanBits-above binary64 n ∙ lt-ltb _ _ h))
+
+-- and any other is a number's
+pub number-pattern : (n : ℕ) → n % 0x8000_0000_0000_0000 ≤ 0x7ff0_0000_0000_0000 → T (not (nanBits binary64 n))
+number-pattern n h = rw (nanBits-above, le-ltb (ones binary64 * hid binary64) (n % top binary64) h) tt
 
 -- the remainder by 2 ^ 63 takes the sign's bit off
 unsigned : (s : Bool) (m : ℕ) (e : ℤ) → toBits binary64 (fin true m e) < 2 ^ 64 → toBits binary64 (fin s m e) % 2 ^ 63 ≡ toBits binary64 (fin false m e)

@@ -1,7 +1,8 @@
 // What a caller of f64 needs and the language lacks.
 ghost use mathlib.Core.Path.{_≡_};
-ghost use lib.Ieee.{isNan};
+ghost use lib.Ieee.{binary64, toBits, isNan};
 ghost use lib.Ieee.Scale.{finite};
+ghost use Rattle.float.specs.Ops.{bits};
 ghost use Rattle.float.specs.Methods.{absOf, maxOf, betweenOf, floorOf};
 
 // Whether x is a NaN: nothing else differs from itself.
@@ -59,4 +60,24 @@ pub fn floor_to_u64(x: f64) -> u64
         return 0xffff_ffff_ffff_ffff;
     }
     0
+}
+
+// The bit pattern of x; to_bits is not asked at a NaN, for which this one stands.
+pub fn pattern(x: f64) -> u64
+    ensures { λ r. ⌜ r ≡ toBits binary64 x ⌝ }
+{
+    if x != x {
+        return 0x7ff8_0000_0000_0000;
+    }
+    f64::to_bits(x)
+}
+
+// The f64 with a bit pattern; from_bits is not asked for a NaN.
+pub fn from_pattern(pattern: u64) -> f64
+    ensures { λ r. ⌜ r ≡ bits pattern ⌝ }
+{
+    if 0x7ff0_0000_0000_0000 < pattern % 0x8000_0000_0000_0000 {
+        return 0.0 / 0.0;
+    }
+    f64::from_bits(pattern)
 }

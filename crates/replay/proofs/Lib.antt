@@ -1,4 +1,3 @@
 pub mod Digits
 pub mod Fields
-pub mod Patterns
 pub mod Examples

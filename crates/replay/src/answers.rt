@@ -1,10 +1,10 @@
 // What our functions give for the numbers of a line.
 ghost use mathlib.Core.Path.{_≡_};
-ghost use Rattle.float.specs.Ops.{bits};
 ghost use Rattle.replay.specs.Answers.{pattern, valueOf, answerOf};
 use crate::functions::Function;
 use crate::hex::Written;
 use crate::lines::NUMBERS;
+use float::from_pattern;
 use phred::LogProbability;
 use phred::PhredScore;
 
@@ -59,22 +59,9 @@ fn value(function: Function, n: u64, x: f64, y: f64, z: f64, w: f64) -> Written
     }
 }
 
-// The f64 with a bit pattern; from_bits is not asked for a NaN.
-fn from_pattern(pattern: u64) -> f64
-    ensures { λ r. ⌜ r ≡ bits pattern ⌝ }
-{
-    if 0x7ff0_0000_0000_0000 < pattern % 0x8000_0000_0000_0000 {
-        return 0.0 / 0.0;
-    }
-    f64::from_bits(pattern)
-}
-
-// The bit pattern of x; to_bits is not asked at a NaN, for which the list has this one.
+// The bit pattern of x.
 fn written(x: f64) -> Written
     ensures { λ r. ⌜ r ≡ pattern x ⌝ }
 {
-    if x != x {
-        return Written::Number(0x7ff8_0000_0000_0000);
-    }
-    Written::Number(f64::to_bits(x))
+    Written::Number(float::pattern(x))
 }

@@ -1,10 +1,10 @@
 -- `pattern`: the pattern of a number, and one for NaN. Assumes nothing.
 use lib.Ieee.{toBits}
 use Rattle.float.proofs.Order.{nan-alone}
 use Rattle.float.proofs.Patterns.{number}
 use borrow.Author.Needs.{needs}
-use Rattle.exports.proofs.table_functions.pattern.Statement.{statement}
-use Rattle.exports.proofs.table_functions.pattern.Tie as tie
+use Rattle.float.proofs.pattern.Statement.{statement}
+use Rattle.float.proofs.pattern.Tie as tie
 
 returns : tie.Need-returns
 unfolding toBits

@@ -1,8 +1,8 @@
 -- `from_pattern`: a pattern above the infinity's is a NaN's, and any other is a number's. Assumes nothing.
 use borrow.Author.Needs.{needs}
-use Rattle.replay.proofs.Patterns.{nan-pattern, number-pattern}
-use Rattle.replay.proofs.answers.from_pattern.Statement.{statement}
-use Rattle.replay.proofs.answers.from_pattern.Tie as tie
+use Rattle.float.proofs.Patterns.{nan-pattern, number-pattern}
+use Rattle.float.proofs.from_pattern.Statement.{statement}
+use Rattle.float.proofs.from_pattern.Tie as tie
 
 pub from-pattern-spec : {M : Type 1} → statement M
 from-pattern-spec =
