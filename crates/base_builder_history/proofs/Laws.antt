@@ -56,13 +56,18 @@ none [] e = refl
 none (o ∷ os) e = absurd (omega arith)
 
 module _ (pre post : ℕ) (rule : TieRule) (es : List Event) where
+  in-all : total (after pre post rule es .observations) ≡ length (countedSince [] es)
+  unfolding total
+  in-all =
+      let had = after-holds pre post rule es in
+      rw (had .counts 0 (omega arith), had .counts 1 (omega arith), had .counts 2 (omega arith), had .counts 3 (omega arith)) (had .all)
+
   nothing-counted : contributionsOf (after pre post rule es) ≡ 0 → ruled (after pre post rule es) ≡ noLane
-  unfolding contributionsOf total valuesOf kahan
+  unfolding contributionsOf valuesOf kahan
   nothing-counted e =
       let b = after pre post rule es in
       let had = after-holds pre post rule es in
-      let n : total (b .observations) ≡ length (countedSince [] es) =
-      rw (had .counts 0 (omega arith), had .counts 1 (omega arith), had .counts 2 (omega arith), had .counts 3 (omega arith)) (had .all) in
+      let n = in-all in
       let most = had .most in
       let os = none (countedSince [] es) (omega arith) in
       let at : (i : ℕ) → i < 4 → lane (b .likelihoods) i ≡ nought =
@@ -92,6 +97,7 @@ laws pre post rule es =
     record {
       own-values = had .sums;
       count = had .counts;
+      most = rw (in-all pre post rule es) (had .most);
       call-base = call-base pre post rule es;
       nothing-counted = nothing-counted pre post rule es;
     }

@@ -11,3 +11,4 @@ pub mod Demand3
 pub mod Laws
 pub mod Starred
 pub mod Corners
+pub mod Refusals

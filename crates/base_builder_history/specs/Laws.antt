@@ -1,7 +1,7 @@
 -- What else holds after every list of events. Definitions only.
 use mathlib.Core.Path.{_≡_}
 use mathlib.Core.List.{List, []}
-use Prim.Native.Nat.{ℕ, _<_}
+use Prim.Native.Nat.{ℕ, _≤_, _<_}
 use Rattle.rate_tables.specs.Adjusted.{adjustedTables}
 use Rattle.rate_tables.specs.Gaps.{gapTables}
 use Rattle.tie_rules.specs.declared.tie_rule.TieRule.{TieRule}
@@ -9,7 +9,7 @@ use Rattle.tie_rules.specs.Lanes.{noLane, baseOf}
 use Rattle.tie_rules.specs.Ties.{uniqueMaxIndexWith}
 use Rattle.lane_calls.specs.Unanimous.{counted}
 use Rattle.base_builder.specs.declared.builder.ConsensusBaseBuilder.{ConsensusBaseBuilder}
-use Rattle.base_builder.specs.Builder.{sumOf, contributionsOf}
+use Rattle.base_builder.specs.Builder.{total, sumOf, contributionsOf}
 use Rattle.base_builder.specs.Calls.{callOf}
 use Rattle.base_builder_history.specs.History.{Event, after}
 use Rattle.base_builder_history.specs.Counted.{countedSince, valuesOf, kahan, timesOf}
@@ -23,6 +23,8 @@ pub record Laws (pre post : ℕ) (rule : TieRule) (es : List Event) : Type 0 whe
   pub own-values : (i : ℕ) → i < 4 → sumOf (after pre post rule es) i ≡ kahan (valuesOf (adjustedTables post) i (countedSince [] es))
   -- its count is the number of observations of its base that were counted since the last reset
   pub count : (i : ℕ) → i < 4 → counted (after pre post rule es .observations) i ≡ timesOf i (countedSince [] es)
+  -- all counts together are never more than 4,294,967,295, so that none of them wraps
+  pub most : total (after pre post rule es .observations) ≤ 4294967295
   -- the base of the call is that of the rule's lane, N where there is none
   pub call-base : callOf (gapTables pre) (after pre post rule es) .base ≡ baseOf (ruled (after pre post rule es))
   -- as there is where nothing was counted
