@@ -12,3 +12,4 @@ pub mod Laws
 pub mod Starred
 pub mod Corners
 pub mod Refusals
+pub mod AddedTests

@@ -1,0 +1,52 @@
+// A script of a builder's calls: the reports that it asks for, or how long it takes.
+ghost use mathlib.Core.Path.{_≡_};
+ghost use Rattle.history_script.specs.Bytes.{written, replied};
+ghost use Rattle.history_script.specs.Runs.{historyBytes};
+ghost use Rattle.history_script.specs.State.{builderScriptBytes};
+ghost use Rattle.history_script.specs.Times.{timesOf};
+use phred::PhredScore;
+
+// On a new builder of two rates.
+#[no_mangle]
+pub extern "C" fn consensus_history(
+    pre: u8,
+    post: u8,
+    rule: u8,
+    script: &[u8],
+    out: &mut [u8],
+) -> u64
+    ensures reply { λ r. ⌜ r ≡ replied (historyBytes pre post rule (now (script .entry))) (now (out .entry)) ⌝ }
+    ensures lent { λ _. ⌜ now (out .exit) ≡ written (historyBytes pre post rule (now (script .entry))) (now (out .entry)) ⌝ }
+{
+    history_script::history(PhredScore(pre), PhredScore(post), rule, script, out)
+}
+
+// On a builder of 80 given bytes.
+#[no_mangle]
+pub extern "C" fn consensus_builder(
+    pre: u8,
+    post: u8,
+    rule: u8,
+    state: &[u8],
+    script: &[u8],
+    out: &mut [u8],
+) -> u64
+    ensures reply { λ r. ⌜ r ≡ replied (builderScriptBytes pre post rule (now (state .entry)) (now (script .entry))) (now (out .entry)) ⌝ }
+    ensures lent { λ _. ⌜ now (out .exit) ≡ written (builderScriptBytes pre post rule (now (state .entry)) (now (script .entry))) (now (out .entry)) ⌝ }
+{
+    history_script::from_state(PhredScore(pre), PhredScore(post), rule, state, script, out)
+}
+
+// For timing: so many runs, each on a new builder.
+#[no_mangle]
+pub extern "C" fn consensus_history_times(
+    pre: u8,
+    post: u8,
+    rule: u8,
+    script: &[u8],
+    times: u32,
+) -> u64
+    ensures { λ r. ⌜ r ≡ timesOf pre post rule (now (script .entry)) times ⌝ }
+{
+    history_script::times(PhredScore(pre), PhredScore(post), rule, script, times)
+}

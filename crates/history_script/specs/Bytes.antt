@@ -1,0 +1,35 @@
+-- Numbers as bytes, and bytes in a lent buffer. Definitions only.
+use Prim.Native.Nat.{ℕ, zero, suc, _+_, _*_, _/_, _%_}
+use mathlib.Core.Path.{_≡_}
+use mathlib.Core.List.{List, [], _∷_, _++_}
+use lib.Dec.{leb}
+use lib.ListN.{length, drop}
+use lib.Seq.{sets}
+use Rattle.float.specs.Ops.{if_then_else_}
+
+-- a number as n bytes, the low byte first
+unfoldable pub bytesOf : ℕ → ℕ → List ℕ
+bytesOf zero x = []
+bytesOf (suc n) x = x % 256 ∷ bytesOf n (x / 256)
+
+-- the number that such bytes are
+unfoldable pub numberOf : List ℕ → ℕ
+numberOf [] = 0
+numberOf (b ∷ bs) = b + 256 * numberOf bs
+
+-- bytes put into a buffer at a place: the buffer afterwards, and the next place
+pub record Put (out : List ℕ) (at : ℕ) (bs out′ : List ℕ) (at′ : ℕ) : Type 0 where
+  pub place : at′ ≡ at + length bs
+  pub bytes : out′ ≡ sets out at bs
+
+-- what a buffer holds afterwards: the bytes and then what was there, or, where it is too short, what it held
+unfoldable pub written : List ℕ → List ℕ → List ℕ
+written bs out =
+    if leb (length bs) (length out) then bs ++ drop (length bs) out
+    else out
+
+-- how many bytes were written
+unfoldable pub replied : List ℕ → List ℕ → ℕ
+replied bs out =
+    if leb (length bs) (length out) then length bs
+    else 0
