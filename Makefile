@@ -1,7 +1,10 @@
 # `make help` lists what can be made.
 
-# How many arguments of each range `make differential` compares.
+# How many arguments of each range `make differential` compares, how many histories of the builder,
+# and how many builders of any state.
 ARGUMENTS ?= 10000000
+HISTORIES ?= 1000000
+BUILDERS ?= 20000
 
 # Where `make vectors` writes the stored list of the Rust's answers.
 VECTORS ?= crates/replay/stdin
@@ -25,7 +28,7 @@ help: ## list the targets
 # where its line 'N passed, 0 failed' is printed, all before it held.
 test: ## everything: layout, comparison beside the Rust, then all proofs from nothing
 	rt fmt --check
-	@$(MAKE) --no-print-directory differential ARGUMENTS=1000000
+	@$(MAKE) --no-print-directory differential ARGUMENTS=1000000 HISTORIES=200000 BUILDERS=5000
 	rt ci
 
 check: ## prove what changed, and run the programs
@@ -37,7 +40,9 @@ library: ## prove the crates and write target/staticlib/libexports.a, for C and 
 differential: library ## compare with the Rust, bit for bit, where the Rust can be had
 	@differential/run elementary --arguments $(ARGUMENTS) && \
 		differential/run phred --arguments $(ARGUMENTS) && \
-		differential/run tables || [ $$? -eq $(SKIPPED) ]
+		differential/run tables && \
+		differential/run histories --histories $(HISTORIES) && \
+		differential/run builders --builders $(BUILDERS) || [ $$? -eq $(SKIPPED) ]
 
 vectors: library ## write the stored list of the Rust's answers anew (VECTORS=FILE)
 	differential/run vectors $(VECTORS)

@@ -1,5 +1,7 @@
 //! Times, ours beside the Rust's in one process.
 
+mod columns;
+
 use std::hint::black_box;
 use std::time::Instant;
 
@@ -16,10 +18,10 @@ const ARGUMENTS: usize = 1_000;
 const RUNS: usize = 100;
 const ROUNDS: usize = 20;
 
-/// A line of the printed table: nanoseconds for one call.
+/// A line of the printed table: nanoseconds for one of what is measured.
 struct Line {
     function: &'static str,
-    range: String,
+    arguments: String,
     measure: &'static str,
     rust: f64,
     ours: f64,
@@ -32,21 +34,35 @@ impl Line {
     }
 }
 
-/// Prints the table, in columns or as markdown.
-pub fn run(seed: u64, markdown: bool) {
+/// Prints the table, in columns or as markdown, unless both sides' calls differ.
+pub fn run(seed: u64, markdown: bool) -> bool {
+    let of_builder = match columns::lines(seed) {
+        Ok(lines) => lines,
+        Err(problem) => {
+            println!("bench: {problem}");
+            return false;
+        }
+    };
     let rounds = (0..ROUNDS).map(|_| round(seed));
     let better = |best: Vec<Line>, round: Vec<Line>| {
         best.into_iter().zip(round).map(|(a, b)| a.better(b)).collect()
     };
-    let lines = rounds.reduce(better).unwrap_or_default();
+    let mut lines: Vec<Line> = rounds.reduce(better).unwrap_or_default();
+    lines.extend(of_builder);
     println!(
-        "best of {} runs over {ARGUMENTS} arguments, {}",
+        "functions: best of {} runs over {ARGUMENTS} arguments, {}",
         RUNS * ROUNDS,
         environment::c_library()
+    );
+    println!(
+        "columns: best of {} runs over about {} events, quality 20 to 40, rates 45 and 40, FgbioCompat",
+        columns::ROUNDS,
+        columns::EVENTS
     );
     println!("ratio: the Rust's time over ours, above 1 where ours is less\n");
     let table = table(&lines);
     print!("{}", if markdown { table.markdown() } else { table.aligned() });
+    true
 }
 
 /// Every line, measured once.
@@ -75,7 +91,7 @@ fn both(
     let arguments: Vec<f64> = (0..ARGUMENTS).map(|_| random.between(low, high)).collect();
     let line = |measure, (rust, ours)| Line {
         function,
-        range: format!("{low} to {high}"),
+        arguments: format!("{low} to {high}"),
         measure,
         rust,
         ours,
@@ -108,7 +124,7 @@ fn fastest(rust: impl Fn() -> f64, ours: impl Fn() -> f64) -> (f64, f64) {
     (best.0 * nanoseconds_a_call, best.1 * nanoseconds_a_call)
 }
 
-fn seconds(run: impl Fn() -> f64) -> f64 {
+fn seconds<T>(run: impl FnOnce() -> T) -> f64 {
     let start = Instant::now();
     black_box(run());
     start.elapsed().as_secs_f64()
@@ -116,11 +132,11 @@ fn seconds(run: impl Fn() -> f64) -> f64 {
 
 fn table(lines: &[Line]) -> Table {
     let mut table =
-        Table::new(&["function", "range", "measure", "Rust, ns", "ours, ns", "ratio"], 3..6);
+        Table::new(&["function", "arguments", "measure", "Rust, ns", "ours, ns", "ratio"], 3..6);
     for line in lines {
         table.row(vec![
             line.function.to_owned(),
-            line.range.clone(),
+            line.arguments.clone(),
             line.measure.to_owned(),
             format!("{:.1}", line.rust),
             format!("{:.1}", line.ours),

@@ -1,5 +1,7 @@
 //! What the static library `exports` defines.
 
+use crate::builder::Settings;
+
 unsafe extern "C" {
     pub safe fn consensus_exp(x: f64) -> f64;
     pub safe fn consensus_ln(x: f64) -> f64;
@@ -19,18 +21,77 @@ unsafe extern "C" {
     pub safe fn consensus_ln_not(x: f64) -> f64;
 
     fn consensus_tables(pre: u8, post: u8, out: *mut u8, length: usize) -> u64;
+
+    fn consensus_history(
+        pre: u8,
+        post: u8,
+        rule: u8,
+        script: *const u8,
+        script_length: usize,
+        out: *mut u8,
+        length: usize,
+    ) -> u64;
+    fn consensus_builder(
+        pre: u8,
+        post: u8,
+        rule: u8,
+        state: *const u8,
+        state_length: usize,
+        script: *const u8,
+        script_length: usize,
+        out: *mut u8,
+        length: usize,
+    ) -> u64;
+    fn consensus_history_times(
+        pre: u8,
+        post: u8,
+        rule: u8,
+        script: *const u8,
+        script_length: usize,
+        times: u32,
+    ) -> u64;
 }
+
+// SAFETY of each call below: a slice is passed as a pointer and how many elements there are behind
+// it, and the function reads or writes these alone.
 
 /// `consensus_ln_sum_exp_array` of a slice.
 pub fn ln_sum_exp_array(values: &[f64]) -> f64 {
-    // SAFETY: a slice is passed as a pointer and how many elements there are behind it, and the
-    // function reads these alone.
+    // SAFETY: as above.
     unsafe { consensus_ln_sum_exp_array(values.as_ptr(), values.len()) }
 }
 
 /// `consensus_tables` into a slice.
 pub fn tables(pre: u8, post: u8, out: &mut [u8]) -> u64 {
-    // SAFETY: a slice is passed as a pointer and how many elements there are behind it, and the
-    // function writes these alone.
+    // SAFETY: as above.
     unsafe { consensus_tables(pre, post, out.as_mut_ptr(), out.len()) }
+}
+
+/// `consensus_history` of a script.
+pub fn history(settings: Settings, script: &[u8], out: &mut [u8]) -> u64 {
+    let Settings { pre, post, rule } = settings;
+    let (script, script_length) = (script.as_ptr(), script.len());
+    // SAFETY: as above.
+    unsafe {
+        consensus_history(pre, post, rule, script, script_length, out.as_mut_ptr(), out.len())
+    }
+}
+
+/// `consensus_builder` of a state and a script.
+pub fn builder(settings: Settings, state: &[u8], script: &[u8], out: &mut [u8]) -> u64 {
+    let Settings { pre, post, rule } = settings;
+    let (state, state_length) = (state.as_ptr(), state.len());
+    let (script, script_length) = (script.as_ptr(), script.len());
+    let (out, length) = (out.as_mut_ptr(), out.len());
+    // SAFETY: as above.
+    unsafe {
+        consensus_builder(pre, post, rule, state, state_length, script, script_length, out, length)
+    }
+}
+
+/// `consensus_history_times` of a script.
+pub fn history_times(settings: Settings, script: &[u8], times: u32) -> u64 {
+    let Settings { pre, post, rule } = settings;
+    // SAFETY: as above.
+    unsafe { consensus_history_times(pre, post, rule, script.as_ptr(), script.len(), times) }
 }

@@ -4,13 +4,20 @@ use std::path::PathBuf;
 use std::process::ExitCode;
 use std::{env, io};
 
+use crate::history::Again;
+
 mod arguments;
 mod bench;
+mod builder;
+mod builders;
 mod difference;
 mod elementary;
 mod environment;
 mod exports;
 mod function;
+mod hexadecimal;
+mod histories;
+mod history;
 mod phred;
 mod random;
 mod recorded;
@@ -22,12 +29,18 @@ const USAGE: &str = "\
 usage: compare elementary [--arguments N] [--seed N]   the four elementary functions, bit for bit
        compare phred [--arguments N] [--seed N]        the functions of phred.rs, bit for bit
        compare tables                                  the tables of all 256 rates, bit for bit
+       compare histories [--histories N] [--seed N]    the builder's whole histories, bit for bit
+       compare builders [--builders N] [--seed N]      builders of any state, bit for bit
+       compare history PRE POST RULE SCRIPT [STATE]    one history again, field by field
        compare vectors FILE [--seed N]                 write the stored list of the Rust's answers
        compare bench [--markdown] [--seed N]           times, the Rust's beside ours
 The seed is also taken from the variable DIFFERENTIAL_SEED.";
 
-/// How many arguments of each range are compared, and the seed, where nothing else is asked.
+/// How many arguments of each range are compared, how many histories, how many builders, and the
+/// seed, where nothing else is asked.
 const ARGUMENTS: u64 = 1_000_000;
+const HISTORIES: u64 = 1_000_000;
+const BUILDERS: u64 = 20_000;
 const SEED: u64 = 1;
 
 /// What is to be done.
@@ -35,6 +48,9 @@ enum Command {
     Elementary,
     Phred,
     Tables,
+    Histories,
+    Builders,
+    History(Again),
     Vectors(PathBuf),
     Bench,
 }
@@ -43,6 +59,8 @@ enum Command {
 struct Request {
     command: Command,
     arguments: u64,
+    histories: u64,
+    builders: u64,
     seed: u64,
     markdown: bool,
 }
@@ -51,18 +69,23 @@ impl Request {
     fn read(mut line: impl Iterator<Item = String>) -> Result<Self, String> {
         let mut seed = env::var("DIFFERENTIAL_SEED").map_or(Ok(SEED), |text| number(Some(text)))?;
         let mut arguments = ARGUMENTS;
+        let mut histories = HISTORIES;
+        let mut builders = BUILDERS;
         let mut markdown = false;
         let mut words = Vec::new();
         while let Some(word) = line.next() {
             match word.as_str() {
                 "--arguments" => arguments = number(line.next())?,
+                "--histories" => histories = number(line.next())?,
+                "--builders" => builders = number(line.next())?,
                 "--seed" => seed = number(line.next())?,
                 "--markdown" => markdown = true,
                 option if option.starts_with('-') => return Err(format!("no option {option}")),
                 _ => words.push(word),
             }
         }
-        Ok(Self { command: command(&words)?, arguments, seed, markdown })
+        let command = command(&words)?;
+        Ok(Self { command, arguments, histories, builders, seed, markdown })
     }
 
     /// Does what is asked, and says whether all is as demanded.
@@ -71,11 +94,11 @@ impl Request {
             Command::Elementary => elementary::run(self.arguments, self.seed),
             Command::Phred => Ok(phred::run(self.arguments, self.seed)),
             Command::Tables => Ok(tables::run()),
+            Command::Histories => Ok(histories::run(self.histories, self.seed)),
+            Command::Builders => Ok(builders::run(self.builders, self.seed)),
+            Command::History(again) => Ok(again.run()),
             Command::Vectors(file) => vectors::write(file, self.seed),
-            Command::Bench => {
-                bench::run(self.seed, self.markdown);
-                Ok(true)
-            }
+            Command::Bench => Ok(bench::run(self.seed, self.markdown)),
         }
     }
 }
@@ -86,6 +109,9 @@ fn command(words: &[String]) -> Result<Command, String> {
         ["elementary"] => Ok(Command::Elementary),
         ["phred"] => Ok(Command::Phred),
         ["tables"] => Ok(Command::Tables),
+        ["histories"] => Ok(Command::Histories),
+        ["builders"] => Ok(Command::Builders),
+        ["history", ref words @ ..] => Again::read(words).map(Command::History),
         ["vectors", file] => Ok(Command::Vectors(file.into())),
         ["bench"] => Ok(Command::Bench),
         _ => Err("no such command".to_owned()),

@@ -1,7 +1,7 @@
 //! The functions of phred.rs, ours beside the Rust's, bit for bit.
 
 mod arguments;
-mod formula;
+pub mod formula;
 mod function;
 mod ranges;
 mod refusal;

@@ -24,6 +24,14 @@ impl Random {
         self.bits() % limit
     }
 
+    pub fn byte(&mut self) -> u8 {
+        self.below(256) as u8
+    }
+
+    pub fn one_of<T: Copy>(&mut self, choices: &[T]) -> T {
+        choices[self.below(choices.len() as u64) as usize]
+    }
+
     /// A number from `low` to `high`, both of them included.
     pub fn between(&mut self, low: f64, high: f64) -> f64 {
         let steps = 1_u64 << 53;
@@ -36,11 +44,11 @@ impl Random {
         if self.below(2) == 0 { x } else { -x }
     }
 
-    /// The numbers in another order, each order as likely as any other.
-    pub fn shuffled(&mut self, mut numbers: Vec<f64>) -> Vec<f64> {
-        for last in (1..numbers.len()).rev() {
-            numbers.swap(last, self.below(last as u64 + 1) as usize);
+    /// The same things in another order, each order as likely as any other.
+    pub fn shuffled<T>(&mut self, mut things: Vec<T>) -> Vec<T> {
+        for last in (1..things.len()).rev() {
+            things.swap(last, self.below(last as u64 + 1) as usize);
         }
-        numbers
+        things
     }
 }

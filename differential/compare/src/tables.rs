@@ -26,7 +26,11 @@ pub fn run() -> bool {
     }
     let short = short_is_unchanged();
     print(differing);
-    println!("tables: a buffer of {} bytes {}", BYTES - 1, if short { "unchanged" } else { "CHANGED" });
+    println!(
+        "tables: a buffer of {} bytes {}",
+        BYTES - 1,
+        if short { "unchanged" } else { "CHANGED" }
+    );
     differing == [0; TABLES.len()] && short
 }
 

@@ -12,10 +12,10 @@ pub const LN_FOUR_THIRDS: f64 = 0.287_682_072_451_780_9;
 
 /// Four elementary functions. Of these and of rounded operations the formulas are made.
 pub struct Elementary {
-    exp: fn(f64) -> f64,
-    ln: fn(f64) -> f64,
-    ln_1p: fn(f64) -> f64,
-    exp_m1: fn(f64) -> f64,
+    pub exp: fn(f64) -> f64,
+    pub ln: fn(f64) -> f64,
+    pub ln_1p: fn(f64) -> f64,
+    pub exp_m1: fn(f64) -> f64,
 }
 
 pub static OURS: Elementary = Elementary {

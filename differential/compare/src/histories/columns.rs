@@ -1,0 +1,178 @@
+//! Columns: the observations of one position, by kinds that are drawn in different ways.
+
+use crate::builder::BASES;
+use crate::builder::draws::{Qualities, base};
+use crate::random::Random;
+
+/// A base and its quality.
+pub type Observation = (u8, u8);
+type Column = Vec<Observation>;
+
+/// A way to draw a column.
+pub struct Kind {
+    pub name: &'static str,
+    /// How often it is drawn.
+    weight: u64,
+    /// In how many orders a drawn column is observed.
+    orders: usize,
+    draw: fn(&mut Random) -> Column,
+}
+
+const fn kind(
+    name: &'static str,
+    weight: u64,
+    orders: usize,
+    draw: fn(&mut Random) -> Column,
+) -> Kind {
+    Kind { name, weight, orders, draw }
+}
+
+/// A near-tie depends on the order of the observations, so such columns come in several orders.
+pub static KINDS: [Kind; 11] = [
+    kind("nothing, or ignored bytes alone", 1, 1, ignored_alone),
+    kind("one observation", 4, 1, |random| unanimous(1, random)),
+    kind("unanimous", 8, 1, |random| unanimous(depth(random), random)),
+    kind("one base but for some errors", 8, 1, with_errors),
+    kind("two bases, evenly", 4, 1, |random| of_bases(2, random)),
+    kind("four bases, evenly", 4, 1, |random| of_bases(4, random)),
+    kind("as many of each, one quality", 1, 4, |random| even_split(Spread::One, random)),
+    kind("the same, but for one quality", 1, 4, |random| even_split(Spread::OneOff, random)),
+    kind("as many of each, the same qualities", 1, 4, |random| even_split(Spread::Same, random)),
+    kind("two of one and two of another", 1, 6, two_and_two),
+    kind("any bytes", 4, 1, any_bytes),
+];
+
+/// The place of a kind in the list, by the weights.
+pub fn drawn_kind(random: &mut Random) -> usize {
+    let weights = KINDS.iter().map(|kind| kind.weight);
+    let mut left = random.below(weights.clone().sum());
+    let is_drawn = |weight| {
+        let drawn = left < weight;
+        left = left.saturating_sub(weight);
+        drawn
+    };
+    weights.map(is_drawn).position(|drawn| drawn).expect("what is left is below their sum")
+}
+
+impl Kind {
+    /// A column in each of its orders, some with bytes between that are ignored, and some with bases
+    /// in lower case.
+    pub fn columns(&self, random: &mut Random) -> Vec<Column> {
+        let drawn = (self.draw)(random);
+        let mut columns = Vec::with_capacity(self.orders);
+        for order in 0..self.orders {
+            let column = if order == 0 { drawn.clone() } else { random.shuffled(drawn.clone()) };
+            columns.push(disguised(column, random));
+        }
+        columns
+    }
+}
+
+/// Most columns are short, and some are deep.
+fn depth(random: &mut Random) -> u64 {
+    let deepest = match random.below(100) {
+        0..=69 => 12,
+        70..=89 => 60,
+        90..=97 => 300,
+        _ => 3_000,
+    };
+    1 + random.below(deepest)
+}
+
+fn ignored_alone(random: &mut Random) -> Column {
+    (0..random.below(4)).map(|_| (ignored(random), random.byte())).collect()
+}
+
+fn unanimous(depth: u64, random: &mut Random) -> Column {
+    let (base, qualities) = (base(random), Qualities::drawn(random));
+    (0..depth).map(|_| (base, qualities.next(random))).collect()
+}
+
+fn with_errors(random: &mut Random) -> Column {
+    let (main, qualities) = (base(random), Qualities::drawn(random));
+    let one_error_in = 2 + random.below(50);
+    let observed = |random: &mut Random| {
+        let base = if random.below(one_error_in) == 0 { base(random) } else { main };
+        (base, qualities.next(random))
+    };
+    (0..depth(random)).map(|_| observed(random)).collect()
+}
+
+/// So many bases, each as likely as another.
+fn of_bases(many: usize, random: &mut Random) -> Column {
+    let bases = random.shuffled(BASES.to_vec());
+    let qualities = Qualities::drawn(random);
+    let observed = |random: &mut Random| (random.one_of(&bases[..many]), qualities.next(random));
+    (0..depth(random)).map(|_| observed(random)).collect()
+}
+
+/// Which qualities each base of an even split has.
+#[derive(Clone, Copy)]
+enum Spread {
+    One,
+    /// One, but for a single observation.
+    OneOff,
+    /// The same ones as each other base.
+    Same,
+}
+
+/// Two, three or four bases, as many of each.
+fn even_split(spread: Spread, random: &mut Random) -> Column {
+    let bases = random.shuffled(BASES.to_vec());
+    let many = 2 + random.below(3) as usize;
+    let each = depth(random).div_ceil(many as u64);
+    let drawn = Qualities::drawn(random);
+    let qualities = match spread {
+        Spread::Same => drawn,
+        Spread::One | Spread::OneOff => Qualities::One(drawn.next(random)),
+    };
+    let of_each: Vec<u8> = (0..each).map(|_| qualities.next(random)).collect();
+    let of_base = |base: u8| of_each.iter().map(move |quality| (base, *quality));
+    let mut column: Column = bases[..many].iter().copied().flat_map(of_base).collect();
+    if let Spread::OneOff = spread {
+        one_off(&mut column, random);
+    }
+    random.shuffled(column)
+}
+
+/// Has one quality be the next one up or down.
+fn one_off(column: &mut Column, random: &mut Random) {
+    let place = random.below(column.len() as u64) as usize;
+    let quality = &mut column[place].1;
+    *quality = if random.below(2) == 0 { quality.wrapping_add(1) } else { quality.wrapping_sub(1) };
+}
+
+/// The least near-tie: each quality a usual one, and all the same.
+fn two_and_two(random: &mut Random) -> Column {
+    let bases = random.shuffled(BASES.to_vec());
+    let quality = Qualities::Usual.next(random);
+    random.shuffled([bases[0], bases[0], bases[1], bases[1]].map(|base| (base, quality)).to_vec())
+}
+
+/// Half of them bases, since few of all bytes are.
+fn any_bytes(random: &mut Random) -> Column {
+    let byte =
+        |random: &mut Random| if random.below(2) == 0 { base(random) } else { random.byte() };
+    (0..depth(random)).map(|_| (byte(random), random.byte())).collect()
+}
+
+/// A quarter of the columns with ignored bytes between, a quarter with bases in lower case.
+fn disguised(mut column: Column, random: &mut Random) -> Column {
+    if random.below(4) == 0 {
+        for _ in 0..1 + random.below(3) {
+            let place = random.below(column.len() as u64 + 1) as usize;
+            column.insert(place, (ignored(random), random.byte()));
+        }
+    }
+    if random.below(4) == 0 {
+        let lower = |observation: &mut Observation| observation.0.make_ascii_lowercase();
+        column.iter_mut().filter(|_| random.below(2) == 0).for_each(lower);
+    }
+    column
+}
+
+/// A byte that is no base.
+fn ignored(random: &mut Random) -> u8 {
+    // U and the bytes beside A and T are those that a slip would count
+    random.one_of(b"NNN-n.*@BDFHSUXu\0\xff")
+}

@@ -1,0 +1,92 @@
+//! One script again, both sides' reports field by field.
+
+use crate::builder::cause::causes;
+use crate::builder::report::{Field, Report, STATE_BYTES};
+use crate::builder::script::{ADD, Event, REPORT, RESET, RULE, events, rules_at_reports};
+use crate::builder::sides::{Run, StateBytes};
+use crate::builder::{RULES, Settings, rule_of};
+use crate::hexadecimal::bytes;
+use crate::table::Table;
+
+/// What is to be run again.
+pub struct Again {
+    settings: Settings,
+    script: Vec<u8>,
+    state: Option<StateBytes>,
+}
+
+impl Again {
+    /// From the words that a difference is printed with: rates and rule, then the script and, where
+    /// the builder is not a new one, its state as hexadecimal digits.
+    pub fn read(words: &[&str]) -> Result<Self, String> {
+        let ([pre, post, rule, script], rest) =
+            words.split_first_chunk().ok_or("a history has two rates, a rule and a script")?;
+        let byte = |text: &str| text.parse().map_err(|_| format!("{text} is no byte"));
+        let settings = Settings { pre: byte(pre)?, post: byte(post)?, rule: byte(rule)? };
+        let script = bytes(script)?;
+        if settings.rule as usize >= RULES.len() || !is_script(&script) {
+            return Err("no such rule, or no such event".to_owned());
+        }
+        let state = match rest {
+            [] => None,
+            [state] => Some(read_state(state)?),
+            _ => return Err("a history has one state at most".to_owned()),
+        };
+        Ok(Self { settings, script, state })
+    }
+
+    /// Prints the reports, and says whether they are the same.
+    pub fn run(&self) -> bool {
+        let run = Run { settings: self.settings, state: self.state.as_ref(), script: &self.script };
+        let rust = run.rust();
+        let ours = match run.ours(rust.len()) {
+            Ok(ours) => ours,
+            Err(problem) => {
+                println!("history: {problem}");
+                return false;
+            }
+        };
+        let rules = rules_at_reports(self.settings.rule, &self.script);
+        for ((ours, rust), rule) in ours.iter().zip(&rust).zip(rules) {
+            println!("report under {:?}", rule_of(rule));
+            print!("{}", table(ours, rust).aligned());
+            for cause in causes(ours, rust, self.settings.pre, rule_of(rule)) {
+                println!("cause: {}", cause.name());
+            }
+        }
+        let same = ours == rust;
+        println!(
+            "history: {} reports, {}",
+            rust.len(),
+            if same { "the same" } else { "DIFFERENT" }
+        );
+        same
+    }
+}
+
+/// Whether the Rust's builder can take it.
+fn is_script(script: &[u8]) -> bool {
+    let is_event = |event: Event| match event {
+        [RULE, rule, _] => usize::from(rule) < RULES.len(),
+        [kind, ..] => [ADD, RESET, REPORT].contains(&kind),
+    };
+    script.len() % 3 == 0 && events(script).all(is_event)
+}
+
+fn read_state(digits: &str) -> Result<StateBytes, String> {
+    bytes(digits)?.try_into().map_err(|_| format!("a state has {STATE_BYTES} bytes"))
+}
+
+fn table(ours: &Report, rust: &Report) -> Table {
+    let mut table = Table::new(&["", "ours", "the Rust's", ""], 1..1);
+    for field in Field::ALL {
+        let same = ours.field(field) == rust.field(field);
+        table.row(vec![
+            field.name().to_owned(),
+            ours.words(field),
+            rust.words(field),
+            if same { "" } else { "DIFFERENT" }.to_owned(),
+        ]);
+    }
+    table
+}
