@@ -17,7 +17,7 @@ use Rattle.history_script.specs.Bytes.{bytesOf}
 unfoldable pub eachLane : (ℕ → List ℕ) → List ℕ
 eachLane f = f 0 ++ f 1 ++ f 2 ++ f 3
 
--- four numbers: their bit patterns of 8 bytes
+-- four numbers by their bit patterns of 8 bytes, a NaN's 0x7ff8000000000000
 abbrev pub patternsOf : List Float → List ℕ
 patternsOf xs = eachLane (λ i. bytesOf 8 (toBits binary64 (lane xs i)))
 

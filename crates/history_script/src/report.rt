@@ -83,8 +83,9 @@ fn put_calls(
     ensures { λ r. ⌜ Put (now (out .entry)) at (callsBytes (tablesOf (now (thresholds .entry)) (now («cerr_min» .entry)) cap) builder) (now (out .exit)) r ⌝ }
 {
     let unanimous = try_unanimous_fast_path_with(builder, thresholds, cerr_min, cap);
+    let multibase = builder.try_multibase_fast_path();
     let a = put_reply(out, at, unanimous);
-    let b = put_reply(out, a, builder.try_multibase_fast_path());
+    let b = put_reply(out, a, multibase);
     let c = put_call(out, b, builder.call_full());
     put_call(out, c, call_with(builder, thresholds, cerr_min, cap))
 }
