@@ -3,6 +3,7 @@
 mod known;
 mod states;
 mod tally;
+pub mod vectors;
 
 use self::states::{KINDS, chosen};
 use self::tally::Tally;

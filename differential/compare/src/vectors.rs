@@ -1,5 +1,5 @@
 //! The stored list of the Rust's answers, a line for each: the function's letter, the arguments' bit
-//! patterns and the answer's, in lower-case hexadecimal digits.
+//! patterns and the answer's, in lower-case hexadecimal digits; last the lines of builders.
 
 use std::collections::HashSet;
 use std::path::Path;
@@ -9,6 +9,7 @@ use crate::arguments::{
     Range, limits_and_neighbours, negative_powers_of_two, neighbours_of_special_values,
     phred_points, phred_probabilities, ranges, special_values,
 };
+use crate::builders;
 use crate::difference::{Answers, stored_bits};
 use crate::environment;
 use crate::function::{FUNCTIONS, Function};
@@ -61,6 +62,7 @@ fn lists(recorded: &[Vec<f64>], seed: u64) -> Result<Vec<Lines>, String> {
         lists.push(list.lines());
     }
     lists.extend(phred::vectors::lines(seed)?);
+    lists.push(builders::vectors::lines(seed)?);
     Ok(lists)
 }
 

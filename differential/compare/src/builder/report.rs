@@ -115,6 +115,10 @@ impl Report {
         Self(bytes)
     }
 
+    pub fn bytes(&self) -> &[u8; BYTES] {
+        &self.0
+    }
+
     pub fn field(&self, field: Field) -> &[u8] {
         &self.0[field.bytes()]
     }
