@@ -1,7 +1,7 @@
 -- With the tables of a pre-UMI rate the unanimous shortcut reads nothing outside them: where it replies, it names its lane, with a quality of 2 to 93.
 -- Assumes nothing.
 use mathlib.Core.Path.{_≡_, refl, sym, ap, _∙_, subst}
-use mathlib.Core.Bool.{Bool, true, false, _&&_}
+use mathlib.Core.Bool.{Bool, true, false, not, _&&_}
 use mathlib.Core.List.{List}
 use Prim.Native.Nat.{ℕ, zero, suc, _+_, _-_, _≤_, _<_}
 use native.Mathlib.Omega.{arith}
@@ -27,7 +27,7 @@ use Rattle.lane_calls.specs.declared.call.Reply.the-variants.{Replied, Deferred
 use Rattle.lane_calls.specs.Calls.{called, outside, unanimousMargin}
 use Rattle.lane_calls.specs.Search.{entry, partitionPoint}
 use Rattle.lane_calls.proofs.PartitionPoint.{point-above, point-below}
-use Rattle.lane_calls.specs.Unanimous.{leads, capReply, bracketReply, gapReply}
+use Rattle.lane_calls.specs.Unanimous.{leads, clearsCap, clearsLower, clearsUpper, capReply, bracketReply, gapReply}
 
 -- a reply names lane i, with a quality of 2 to 93
 abbrev pub Names : ℕ → Reply → Type 0
@@ -71,21 +71,16 @@ module _ (pre i : ℕ) (winner loser : Float) where
   cap-names =
       let cap = own-cap pre in
       rw (ne-eqb (t .cap) 0 (λ (e : t .cap ≡ 0). omega arith))
-      (choice (Names i)
-      (le lnTwo (winner ⊖ loser ⊖ entry (t .thresholds) (t .cap))
-      && lt (unanimousMargin winner loser one) (bits 0x3fe0_0000_0000_0000 ⊗ entry (t .«cerr_min») (t .cap - 1)))
-      (Replied (called i (t .cap))) Deferred (λ _. (refl, cap)) (λ _. tt))
+      (choice (Names i) (clearsCap t winner loser) (Replied (called i (t .cap))) Deferred (λ _. (refl, cap)) (λ _. tt))
 
   bracket-names : (p : ℕ) → 3 ≤ p → p ≤ 93 → Names i (bracketReply t i winner loser p)
   unfolding bracketReply
   bracket-names p h k =
-      let gap = winner ⊖ loser in
-      let margin = unanimousMargin winner loser (entry (t .«cerr_min») (p - 1)) in
       let level : Level (p - 1) = (omega arith, omega arith) in
       rw (ne-eqb p 0 (λ (e : p ≡ 0). omega arith), le-ltb 93 p k)
-      (choice (Names i) (lt margin (gap ⊖ entry (t .thresholds) (p - 1))) _ Deferred
-      (λ _. choice (Names i) (lt margin (entry (t .thresholds) p ⊖ gap)) (Replied (called i (p - 1))) Deferred (λ _. (refl, level)) (λ _. tt))
-      (λ _. tt))
+      (choice (Names i) (not (clearsLower t winner loser p)) Deferred _
+      (λ _. tt)
+      (λ _. choice (Names i) (clearsUpper t winner loser p) (Replied (called i (p - 1))) Deferred (λ _. (refl, level)) (λ _. tt)))
 
   pub gap-names : leads winner loser ≡ true → Names i (gapReply t i winner loser)
   unfolding gapReply leads

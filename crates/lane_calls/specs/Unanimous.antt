@@ -1,6 +1,6 @@
 -- The shortcut where one base alone was observed: its quality by its lead over the others, from the tables of the pre-UMI rate. Definitions only.
 use Prim.Native.Nat.{ℕ, _+_, _-_, _%_}
-use mathlib.Core.Bool.{Bool, _&&_, _||_}
+use mathlib.Core.Bool.{Bool, not, _&&_, _||_}
 use mathlib.Core.List.{List}
 use lib.Dec.{ltb, eqb}
 use lib.ListN.{getD}
@@ -45,26 +45,37 @@ leads winner loser = finite (winner ⊖ loser) && lt (bits 0x3cb0_0000_0000_0000
 abbrev pub tablesOf : List Float → List Float → ℕ → UnanimousGapTables
 tablesOf thresholds cerr cap = record { thresholds = thresholds; «cerr_min» = cerr; cap = cap }
 
--- at or above the cap's threshold: the cap, where the gap is ln 2 or more above it and the margin is below half the error there
+-- at or above the cap's threshold: the gap is ln 2 or more above it, and the margin is below half the error there
+abbrev pub clearsCap : UnanimousGapTables → Float → Float → Bool
+clearsCap t winner loser =
+    le lnTwo (winner ⊖ loser ⊖ entry (t .thresholds) (t .cap))
+    && lt (unanimousMargin winner loser one) (bits 0x3fe0_0000_0000_0000 ⊗ entry (t .«cerr_min») (t .cap - 1))
+
+-- then the quality is the cap
 unfoldable pub capReply : UnanimousGapTables → ℕ → Float → Float → Reply
 capReply t i winner loser =
     if eqb (t .cap) 0 then outside
-    else if
-    le lnTwo (winner ⊖ loser ⊖ entry (t .thresholds) (t .cap))
-    && lt (unanimousMargin winner loser one) (bits 0x3fe0_0000_0000_0000 ⊗ entry (t .«cerr_min») (t .cap - 1))
-    then Replied (called i (t .cap))
+    else if clearsCap t winner loser then Replied (called i (t .cap))
     else Deferred
 
--- below it, where p entries are at or below the gap: the level p - 1, where the gap is further than the margin from that level's threshold and the next's
+-- below the cap's threshold, where p entries are at or below the gap: the margin of level p - 1
+abbrev pub marginOf : UnanimousGapTables → Float → Float → ℕ → Float
+marginOf t winner loser p = unanimousMargin winner loser (entry (t .«cerr_min») (p - 1))
+
+-- the gap is further than this above the level's threshold, and below the next level's
+abbrev pub clearsLower : UnanimousGapTables → Float → Float → ℕ → Bool
+clearsLower t winner loser p = lt (marginOf t winner loser p) (winner ⊖ loser ⊖ entry (t .thresholds) (p - 1))
+
+abbrev pub clearsUpper : UnanimousGapTables → Float → Float → ℕ → Bool
+clearsUpper t winner loser p = lt (marginOf t winner loser p) (entry (t .thresholds) p ⊖ (winner ⊖ loser))
+
+-- then the quality is the level
 unfoldable pub bracketReply : UnanimousGapTables → ℕ → Float → Float → ℕ → Reply
 bracketReply t i winner loser p =
-    let gap = winner ⊖ loser in
-    let margin = unanimousMargin winner loser (entry (t .«cerr_min») (p - 1)) in
     if eqb p 0 then outside
-    else if lt margin (gap ⊖ entry (t .thresholds) (p - 1)) then
-    if ltb 93 p then outside
-    else if lt margin (entry (t .thresholds) p ⊖ gap) then Replied (called i (p - 1))
-    else Deferred
+    else if not (clearsLower t winner loser p) then Deferred
+    else if ltb 93 p then outside
+    else if clearsUpper t winner loser p then Replied (called i (p - 1))
     else Deferred
 
 -- what the tables say of lane i
