@@ -1,15 +1,20 @@
 -- The definitions on some lines, by computation. Assumes nothing.
-use Prim.Native.Nat.{ℕ}
+use Prim.Native.Nat.{ℕ, zero, suc}
 use mathlib.Core.Path.{_≡_, refl}
+use mathlib.Core.Bool.{true, false}
 use mathlib.Core.List.{List, [], _∷_, _++_}
+use lib.ListN.{replicate}
 use lib.Ieee.{neg, div, lt, ne, eq, ofBits, toBits}
 use Rattle.io.specs.Digits.{digits}
 use Rattle.elementary.specs.Exp.{expOf}
+use Rattle.history_script.specs.Runs.{scriptBytes}
+use Rattle.history_script.specs.State.{builderScriptBytes}
 use Rattle.phred.specs.Phred.{allLnZero, lnSumExpArray}
 use Rattle.replay.specs.declared.hex.Written.the-variants.{Number, NoNumber}
 use Rattle.replay.specs.declared.lines.Verdict.the-variants.{End, Equal, Differs, NotAnAnswer}
 use Rattle.replay.specs.Functions.{kindOf}
 use Rattle.replay.specs.Hex.{digitOf, hexFrom, hexOf}
+use Rattle.replay.specs.Builders.{areDigits, bytesOf, sameBytes, isField, isBuilderLine, besideScript, builderLine}
 use Rattle.replay.specs.Lines.{fieldOf, fieldsFrom, numbersOf, verdictOf}
 
 -- what follows the letter: a space and 16 digits for each number, as io writes them, and a newline
@@ -41,3 +46,42 @@ of-lanes = refl
 pub not-in-the-form : (verdictOf (113 ∷ fields (256 ∷ 0 ∷ [])) ≡ NotAnAnswer) × (verdictOf (69 ∷ fields (0 ∷ 0 ∷ [])) ≡ NotAnAnswer) × (verdictOf (101 ∷ fields (0 ∷ [])) ≡ NotAnAnswer) × (verdictOf (101 ∷ fields (0 ∷ 0 ∷ 0 ∷ [])) ≡ NotAnAnswer) × (verdictOf [] ≡ End)
 unfolding fields verdictOf numbersOf fieldsFrom fieldOf kindOf digitOf hexFrom
 not-in-the-form = (refl, refl, refl, refl, refl)
+
+-- two digits for each byte
+pub inDigits : List ℕ → List ℕ
+inDigits [] = []
+inDigits (b ∷ bs) = digits 16 2 b ++ inDigits bs
+
+-- they are read
+pub bytes-read : bytesOf (inDigits (0 ∷ 78 ∷ 255 ∷ [])) ≡ 0 ∷ 78 ∷ 255 ∷ []
+unfolding inDigits bytesOf digitOf
+bytes-read = refl
+
+-- a script of n bases that are ignored, and a report
+pub ignored : ℕ → List ℕ
+ignored zero = 3 ∷ 0 ∷ 0 ∷ []
+ignored (suc n) = 0 ∷ 78 ∷ 0 ∷ ignored n
+
+-- a line of a builder that has seen nothing: a rule, the byte before each field, the last byte
+pub builder : ℕ → ℕ → ℕ → List ℕ
+builder rule space end =
+    (98 ∷ space ∷ inDigits (45 ∷ 40 ∷ rule ∷ []))
+    ++ (space ∷ inDigits (replicate 80 0))
+    ++ (space ∷ inDigits (ignored 15))
+    ++ (space ∷ inDigits (replicate 86 0 ++ (78 ∷ 2 ∷ 78 ∷ 2 ∷ 0 ∷ [])))
+    ++ (end ∷ [])
+
+-- it is in the form with spaces and a newline, and not with a digit for a space or a space for the newline
+pub builder-form : (isBuilderLine (builder 0 32 10) ≡ true) × (isBuilderLine (builder 0 48 10) ≡ false) × (isBuilderLine (builder 0 32 32) ≡ false)
+unfolding builder inDigits ignored isBuilderLine isField areDigits digitOf
+builder-form = (refl, refl, refl)
+
+-- there is no rule 2, so the script writes nothing
+pub no-rule : verdictOf (builder 2 32 10) ≡ NotAnAnswer
+unfolding builder inDigits ignored verdictOf kindOf builderLine isBuilderLine isField areDigits digitOf bytesOf builderScriptBytes scriptBytes
+no-rule = refl
+
+-- 91 bytes that are the report's, 91 others, and too few
+pub of-reports : (besideScript 98 (replicate 91 7) (replicate 91 7) ≡ Equal 98) × (besideScript 98 (replicate 91 7) (replicate 90 7 ++ (8 ∷ [])) ≡ Differs 98) × (besideScript 98 (replicate 90 7) (replicate 91 7) ≡ NotAnAnswer)
+unfolding sameBytes
+of-reports = (refl, refl, refl)

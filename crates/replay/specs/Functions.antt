@@ -4,14 +4,14 @@ use lib.Dec.{eqb}
 use Rattle.replay.specs.declared.functions.Function.{Function}
 use Rattle.replay.specs.declared.functions.Function.the-variants.{Exp, Ln, LnOnePlus, ExpMinusOne, PhredToLnErrorProb, PhredToLnCorrectProb, LnProbToPhred, LogOnePlusExp, LnOneMinusExp, LnAMinusB, LnErrorProbTwoTrials, LnSumExp, LnSumExpArray, LnNormalize, LnNot}
 use Rattle.replay.specs.declared.functions.Kind.{Kind}
-use Rattle.replay.specs.declared.functions.Kind.the-variants.{Answer, Unknown}
+use Rattle.replay.specs.declared.functions.Kind.the-variants.{Answer, Builder, Unknown}
 use Rattle.float.specs.Ops.{if_then_else_}
 
 -- no line has more bytes
 abbrev pub longest : ℕ
-longest = 87
+longest = 450
 
--- the letters are e l p m q r f g c d t s a z n
+-- the letters are e l p m q r f g c d t s a z n b
 unfoldable pub kindOf : ℕ → Kind
 kindOf letter =
     if eqb letter 101 then Answer Exp
@@ -29,6 +29,7 @@ kindOf letter =
     else if eqb letter 97 then Answer LnSumExpArray
     else if eqb letter 122 then Answer LnNormalize
     else if eqb letter 110 then Answer LnNot
+    else if eqb letter 98 then Builder
     else Unknown
 
 -- how many arguments a function takes
@@ -49,7 +50,8 @@ argumentsOf LnSumExpArray = 4
 argumentsOf LnNormalize = 2
 argumentsOf LnNot = 1
 
--- how many bytes a line has: the letter, a space and 16 digits for each number, a newline; of a line with an unknown letter, the letter and the space
+-- how many bytes a line has: the letter, a space and 16 digits for each number, a newline; the letter, the four fields of a builder, a newline; of a line with an unknown letter, the letter and the space
 abbrev pub lengthOf : Kind → ℕ
 lengthOf (Answer f) = 17 * argumentsOf f + 19
+lengthOf Builder = 450
 lengthOf Unknown = 2

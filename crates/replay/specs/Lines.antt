@@ -1,4 +1,4 @@
--- What a line of the stored list says: whether its result is what the function gives for its arguments, bit for bit. Definitions only.
+-- What a line of the stored list says: whether its result is what the function gives for its arguments, or its report the builder's, bit for bit. Definitions only.
 use Prim.Native.Nat.{ℕ, zero, suc, _+_, _*_}
 use mathlib.Core.Bool.{true, false, _&&_}
 use mathlib.Core.List.{List}
@@ -7,7 +7,7 @@ use lib.ListN.{length, take, drop, getD, set, replicate}
 use Rattle.float.specs.Ops.{if_then_else_}
 use Rattle.replay.specs.declared.functions.Function.{Function}
 use Rattle.replay.specs.declared.functions.Kind.{Kind}
-use Rattle.replay.specs.declared.functions.Kind.the-variants.{Answer, Unknown}
+use Rattle.replay.specs.declared.functions.Kind.the-variants.{Answer, Builder, Unknown}
 use Rattle.replay.specs.declared.hex.Written.{Written}
 use Rattle.replay.specs.declared.hex.Written.the-variants.{Number, NoNumber}
 use Rattle.replay.specs.declared.lines.Fields.{Fields}
@@ -16,6 +16,7 @@ use Rattle.replay.specs.declared.lines.Verdict.the-variants.{End, Equal,
 use Rattle.replay.specs.Functions.{kindOf, argumentsOf}
 use Rattle.replay.specs.Hex.{hexOf}
 use Rattle.replay.specs.Answers.{answerOf}
+use Rattle.replay.specs.Builders.{builderLine}
 
 -- the number of a field: a space and 16 digits
 unfoldable pub fieldOf : List ℕ → Written
@@ -67,6 +68,7 @@ answerLine letter f line = ofFields letter f (numbersOf (argumentsOf f + 1) line
 -- of a line of a kind
 abbrev pub ofKind : ℕ → Kind → List ℕ → Verdict
 ofKind letter (Answer f) line = answerLine letter f line
+ofKind letter Builder line = builderLine letter line
 ofKind letter Unknown line = NotAnAnswer
 
 -- of a line, and of no bytes: they are the end of the list

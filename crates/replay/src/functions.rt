@@ -6,7 +6,7 @@ ghost use Prim.Native.Nat.{_≤_};
 ghost use Rattle.replay.specs.Functions.{longest, kindOf, lengthOf, argumentsOf};
 
 // No line has more bytes.
-pub const LONGEST: usize = 87;
+pub const LONGEST: usize = 450;
 
 pub enum Function {
     Exp,
@@ -29,6 +29,8 @@ pub enum Function {
 pub enum Kind {
     // The function's arguments and its result.
     Answer(Function),
+    // A builder, a script of calls, and the report at its end.
+    Builder,
     Unknown,
 }
 
@@ -51,6 +53,7 @@ pub fn kind_of(letter: u8) -> Kind
         b'a' => Kind::Answer(Function::LnSumExpArray),
         b'z' => Kind::Answer(Function::LnNormalize),
         b'n' => Kind::Answer(Function::LnNot),
+        b'b' => Kind::Builder,
         _ => Kind::Unknown,
     }
 }
@@ -64,6 +67,7 @@ pub fn line_length(letter: u8) -> usize
     let kind = kind_of(letter);
     match kind {
         Kind::Answer(function) => 17 * arguments(function) + 19,
+        Kind::Builder => 450,
         Kind::Unknown => 2,
     }
 }

@@ -28,7 +28,7 @@ pub fn number(digits: &[u8]) -> Written
 }
 
 // The value of a digit, and 16 for a byte that is none.
-fn digit(b: u8) -> u64
+pub fn digit(b: u8) -> u64
     ensures { λ r. ⌜ r ≡ digitOf b ⌝ }
 {
     match b {

@@ -1,9 +1,10 @@
-// What a line of the stored list says of its function.
+// What a line of the stored list says of its function, or of a builder.
 ghost use mathlib.Core.Path.{_≡_};
 ghost use Prim.Native.Nat.{_≤_};
 ghost use lib.ListN.{length};
 ghost use Rattle.replay.specs.Lines.{fieldOf, noFields, numbersOf, answerLine, verdictOf};
 use crate::answers;
+use crate::builders;
 use crate::functions;
 use crate::functions::Function;
 use crate::functions::Kind;
@@ -33,6 +34,7 @@ pub fn judge(line: &[u8]) -> Verdict
     let kind = functions::kind_of(letter);
     match kind {
         Kind::Answer(function) => answer_line(letter, function, line),
+        Kind::Builder => builders::builder_line(letter, line),
         Kind::Unknown => Verdict::NotAnAnswer,
     }
 }

@@ -1,6 +1,7 @@
 // Replays a stored list of answers: reads each line from standard input, works its answer out anew
 // and compares the two, bit for bit. The counts at the end say how many answers were compared.
 mod answers;
+mod builders;
 mod counts;
 mod functions;
 mod hex;
@@ -89,6 +90,7 @@ fn print_all(counts: &[u64; COUNTERS]) {
     print_counts(b"ln_sum_exp_array: ", counts, b'a');
     print_counts(b"ln_normalize: ", counts, b'z');
     print_counts(b"ln_not: ", counts, b'n');
+    print_counts(b"builder: ", counts, b'b');
 }
 
 fn print_counts(name: &[u8], counts: &[u64; COUNTERS], letter: u8) {

@@ -1,3 +1,4 @@
+-- `kind_of`: each letter of the `match` is one of the definition. Assumes nothing.
 use borrow.Author.Tests.{ne-eqb}
 use Rattle.replay.specs.Functions.{kindOf}
 use Rattle.replay.proofs.functions.kind_of.Statement.{statement}
@@ -23,4 +24,5 @@ kind-of-spec =
     (λ c. rw (c .match .keys13))
     (λ c. rw (c .match .keys14))
     (λ c. rw (c .match .keys15))
+    (λ c. rw (c .match .keys16))
     (λ c. search ne-eqb))

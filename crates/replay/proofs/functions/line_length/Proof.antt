@@ -8,6 +8,7 @@ line-length-spec =
     tie.close
     (tie.spec
     (λ c κs. search needs) (λ c. search needs) (λ c κs. search needs) (λ c. search needs)
-    (λ c. search needs) (λ c. search needs)
+    (λ c. search needs) (λ c. search needs) (λ c. search needs)
     (λ c. (rw (← c .before .before .before .before .kind-of .ensures, c .before .before .kind .given .1, ← c .arguments .ensures .0), search needs))
-    (λ c. (rw (← c .before .before .kind-of .ensures, c .enum-told .given .1), search needs)))
+    (λ c. (rw (← c .before .before .kind-of .ensures, c .enum-told .given .1), search needs))
+    (λ c. (rw (← c .before .before .kind-of .ensures, c .enum-told2 .given .1), search needs)))

@@ -1,0 +1,96 @@
+-- Bytes in digits, two for each, and two lists of bytes, read one by one. Assumes nothing.
+use Prim.Native.Nat.{ℕ, suc, _+_, _≤_, _<_}
+use mathlib.Core.Path.{_≡_, refl, ap}
+use mathlib.Core.Bool.{true, false}
+use mathlib.Core.List.{List, [], _∷_, _++_}
+use native.Mathlib.Numerals.{add-one}
+use native.Mathlib.Omega.{arith}
+use lib.Dec.{ltb, eqb}
+use lib.ListN.{length, take, drop, getD, set, drop-of-length-le}
+use lib.Seq.{drop-cons, append-snoc, take-suc-set}
+use borrow.Author.Tests.{ltb-true, eqb-true, lt-ltb, le-ltb, eq-eqb, ne-eqb}
+use Rattle.float.proofs.Cases.{both, clash, and-false}
+use Rattle.replay.specs.Hex.{digitOf}
+use Rattle.replay.specs.Builders.{areDigits, byteOf, bytesOf, sameBytes}
+
+module _ (bytes : List ℕ) (i : ℕ) where
+  -- a digit: the others decide
+  pub digits-go-on : i < length bytes → digitOf (getD bytes i 0) < 16 → areDigits (drop i bytes) ≡ areDigits (drop (i + 1) bytes)
+  unfolding areDigits
+  digits-go-on h d = rw (add-one, drop-cons bytes i 0, lt-ltb (digitOf (getD bytes i 0)) 16)
+
+  -- another byte
+  pub digits-stop : i < length bytes → 16 ≤ digitOf (getD bytes i 0) → areDigits (drop i bytes) ≡ false
+  unfolding areDigits
+  digits-stop h d = rw (drop-cons bytes i 0, le-ltb (digitOf (getD bytes i 0)) 16)
+
+  -- no byte is left
+  pub digits-end : length bytes ≤ i → areDigits (drop i bytes) ≡ true
+  unfolding areDigits
+  digits-end h = rw (drop-of-length-le bytes h)
+
+  -- the first of digits is one, and so are the others
+  pub first-digit : i < length bytes → areDigits (drop i bytes) ≡ true → (digitOf (getD bytes i 0) < 16) × (areDigits (drop (i + 1) bytes) ≡ true)
+  unfolding areDigits
+  first-digit h t =
+      let d = both (ltb (digitOf (getD bytes i 0)) 16) (areDigits (drop (suc i) bytes)) (rw (drop-cons bytes i 0 h) at t) in
+      (ltb-true (digitOf (getD bytes i 0)) 16 (d .0), rw add-one (d .1))
+
+  -- two digits are a byte
+  pub bytes-go-on : i + 1 < length bytes → bytesOf (drop i bytes) ≡ byteOf (getD bytes i 0) (getD bytes (i + 1) 0) ∷ bytesOf (drop (i + 2) bytes)
+  unfolding bytesOf
+  bytes-go-on h =
+      let l : i < length bytes = omega arith in
+      let k : suc (i + 1) ≡ i + 2 = omega arith in
+      rw (drop-cons bytes i 0 l, ← add-one i, drop-cons bytes (i + 1) 0 h, k)
+
+  -- no digit is left
+  pub bytes-end : length bytes ≤ i → bytesOf (drop i bytes) ≡ []
+  unfolding bytesOf
+  bytes-end h = rw (drop-of-length-le bytes h)
+
+-- the first two of digits, and the others
+pub two-digits : (bytes : List ℕ) (i : ℕ) → i + 1 < length bytes → areDigits (drop i bytes) ≡ true → (digitOf (getD bytes i 0) < 16) × (digitOf (getD bytes (i + 1) 0) < 16) × (areDigits (drop (i + 2) bytes) ≡ true)
+two-digits bytes i h t =
+    let k : i + 1 + 1 ≡ i + 2 = omega arith in
+    let d = first-digit bytes i (omega arith) t in
+    let e = first-digit bytes (i + 1) h (d .1) in
+    (d .0, e .0, rw k at (e .1))
+
+-- the next byte joins those that are read
+pub next-byte : (out digits : List ℕ) (i j b : ℕ) → i < length out → j + 1 < length digits → b ≡ byteOf (getD digits j 0) (getD digits (j + 1) 0) → take (i + 1) (set out i b) ++ bytesOf (drop (j + 2) digits) ≡ take i out ++ bytesOf (drop j digits)
+next-byte out digits i j b h k e = rw (add-one, take-suc-set out i b h, bytes-go-on digits j k, e) (append-snoc (take i out) _ _)
+
+module _ (a b : List ℕ) (i : ℕ) where
+  -- two bytes that are the same: the others decide
+  pub same-go-on : i < length a → i < length b → getD a i 0 ≡ getD b i 0 → sameBytes (drop i a) (drop i b) ≡ sameBytes (drop (i + 1) a) (drop (i + 1) b)
+  unfolding sameBytes
+  same-go-on h k e = rw (add-one, drop-cons a i 0, drop-cons b i 0, eq-eqb (getD a i 0) (getD b i 0))
+
+  -- two others
+  pub same-stop : i < length a → i < length b → (getD a i 0 ≡ getD b i 0 → ⊥) → sameBytes (drop i a) (drop i b) ≡ false
+  unfolding sameBytes
+  same-stop h k n = rw (drop-cons a i 0, drop-cons b i 0, ne-eqb (getD a i 0) (getD b i 0))
+
+  -- no byte is left
+  pub same-end : length a ≤ i → length b ≤ i → sameBytes (drop i a) (drop i b) ≡ true
+  unfolding sameBytes
+  same-end h k = rw (drop-of-length-le a h, drop-of-length-le b k)
+
+-- lists of two lengths
+pub same-lengths : (a b : List ℕ) → (length a ≡ length b → ⊥) → sameBytes a b ≡ false
+unfolding sameBytes
+same-lengths [] [] n = absurd (n refl)
+same-lengths [] (y ∷ ys) n = refl
+same-lengths (x ∷ xs) [] n = refl
+same-lengths (x ∷ xs) (y ∷ ys) n = rw (same-lengths xs ys (λ e. n (ap suc e))) (and-false (eqb x y))
+
+-- lists of the same bytes are equal
+pub same-equal : (a b : List ℕ) → sameBytes a b ≡ true → a ≡ b
+unfolding sameBytes
+same-equal [] [] t = refl
+same-equal [] (y ∷ ys) t = clash refl t
+same-equal (x ∷ xs) [] t = clash refl t
+same-equal (x ∷ xs) (y ∷ ys) t =
+    let d = both (eqb x y) (sameBytes xs ys) t in
+    rw (eqb-true x y (d .0), same-equal xs ys (d .1))

@@ -1,0 +1,80 @@
+-- A line of a builder: whether its report is what the script writes that is run from the builder. Definitions only.
+use Prim.Native.Nat.{ℕ, _+_, _*_}
+use mathlib.Core.Bool.{Bool, true, false, _&&_}
+use mathlib.Core.List.{List, [], _∷_}
+use lib.Dec.{ltb, eqb}
+use lib.ListN.{length, take, drop, getD}
+use Rattle.float.specs.Ops.{if_then_else_}
+use Rattle.history_script.specs.State.{builderScriptBytes}
+use Rattle.replay.specs.declared.lines.Verdict.{Verdict}
+use Rattle.replay.specs.declared.lines.Verdict.the-variants.{Equal, Differs, NotAnAnswer}
+use Rattle.replay.specs.Hex.{digitOf}
+
+-- all of it is digits
+unfoldable pub areDigits : List ℕ → Bool
+areDigits [] = true
+areDigits (b ∷ bs) = ltb (digitOf b) 16 && areDigits bs
+
+-- a byte of two digits, the high digit first
+abbrev pub byteOf : ℕ → ℕ → ℕ
+byteOf high low = 16 * digitOf high + digitOf low
+
+-- the bytes of digits
+unfoldable pub bytesOf : List ℕ → List ℕ
+bytesOf [] = []
+bytesOf (high ∷ []) = []
+bytesOf (high ∷ low ∷ digits) = byteOf high low ∷ bytesOf digits
+
+-- two lists are the same bytes
+unfoldable pub sameBytes : List ℕ → List ℕ → Bool
+sameBytes [] [] = true
+sameBytes [] (b ∷ ys) = false
+sameBytes (a ∷ xs) [] = false
+sameBytes (a ∷ xs) (b ∷ ys) = eqb a b && sameBytes xs ys
+
+-- a field: a space, then digits
+unfoldable pub isField : List ℕ → Bool
+isField field = eqb (getD field 0 0) 32 && areDigits (drop 1 field)
+
+-- its bytes
+abbrev pub fieldBytes : List ℕ → List ℕ
+fieldBytes field = bytesOf (drop 1 field)
+
+-- the fields of a line: 3 bytes of pre rate, post rate and rule; 80 of the builder's state; 48 of the script; 91 of the report
+abbrev pub ratesIn : List ℕ → List ℕ
+ratesIn line = take 7 (drop 1 line)
+
+abbrev pub stateIn : List ℕ → List ℕ
+stateIn line = take 161 (drop 8 line)
+
+abbrev pub scriptIn : List ℕ → List ℕ
+scriptIn line = take 97 (drop 169 line)
+
+abbrev pub reportIn : List ℕ → List ℕ
+reportIn line = take 183 (drop 266 line)
+
+-- the form of a line: a letter, the fields, a newline
+unfoldable pub isBuilderLine : List ℕ → Bool
+isBuilderLine line = eqb (length line) 450 && (isField (ratesIn line) && (isField (stateIn line) && (isField (scriptIn line) && (isField (reportIn line) && eqb (getD line 449 0) 10))))
+
+-- of a line's letter, our report and the line's
+abbrev pub besideReport : ℕ → List ℕ → List ℕ → Verdict
+besideReport letter ours report =
+    if sameBytes ours report then Equal letter
+    else Differs letter
+
+-- of what the script writes and the line's report; a script that writes none, or more than one, gives no answer
+abbrev pub besideScript : ℕ → List ℕ → List ℕ → Verdict
+besideScript letter written report =
+    if eqb (length written) 91 then besideReport letter written report
+    else NotAnAnswer
+
+-- what the script writes that is run from a builder, at pre rate, post rate and rule
+abbrev pub oursOf : List ℕ → List ℕ → List ℕ → List ℕ
+oursOf rates state script = builderScriptBytes (getD rates 0 0) (getD rates 1 0) (getD rates 2 0) state script
+
+-- of a line of a builder
+unfoldable pub builderLine : ℕ → List ℕ → Verdict
+builderLine letter line =
+    if isBuilderLine line then besideScript letter (oursOf (fieldBytes (ratesIn line)) (fieldBytes (stateIn line)) (fieldBytes (scriptIn line))) (fieldBytes (reportIn line))
+    else NotAnAnswer

@@ -1,0 +1,130 @@
+// A line of a builder: a script of calls, run from a given builder, and the report at its end.
+ghost use mathlib.Core.Path.{_≡_};
+ghost use mathlib.Core.Bool.{true};
+ghost use Prim.Native.Nat.{_+_, _*_, _<_};
+ghost use lib.ListN.{length};
+ghost use Rattle.replay.specs.Hex.{digitOf};
+ghost use Rattle.replay.specs.Builders.{areDigits, byteOf, sameBytes, isField, fieldBytes, isBuilderLine, oursOf, besideScript, builderLine};
+use crate::hex;
+use crate::lines::Verdict;
+use phred::PhredScore;
+
+// How many bytes a report has.
+const REPORT: usize = 91;
+
+// Runs the script of a line from its builder, and compares the reports.
+pub fn builder_line(letter: u8, line: &[u8]) -> Verdict
+    ensures { λ r. ⌜ r ≡ builderLine letter (now (line .entry)) ⌝ }
+{
+    if !is_builder_line(line) {
+        return Verdict::NotAnAnswer;
+    }
+    let mut rates = [0u8; 3];
+    let mut state = [0u8; 80];
+    let mut script = [0u8; 48];
+    let mut report = [0u8; REPORT];
+    read_field(&line[1..8], &mut rates);
+    read_field(&line[8..169], &mut state);
+    read_field(&line[169..266], &mut script);
+    read_field(&line[266..449], &mut report);
+    beside(letter, rates, &state, &script, &report)
+}
+
+// The form of a line: a letter, four fields, a newline.
+fn is_builder_line(line: &[u8]) -> bool
+    ensures { λ r. ⌜ r ≡ isBuilderLine (now (line .entry)) ⌝ }
+{
+    if line.len() != 450 {
+        return false;
+    }
+    if !is_field(&line[1..8]) {
+        return false;
+    }
+    if !is_field(&line[8..169]) {
+        return false;
+    }
+    if !is_field(&line[169..266]) {
+        return false;
+    }
+    if !is_field(&line[266..449]) {
+        return false;
+    }
+    line[449] == b'\n'
+}
+
+// A space, and digits after it.
+fn is_field(field: &[u8]) -> bool
+    requires { ⌜ 0 < length (now field) ⌝ }
+    ensures { λ r. ⌜ r ≡ isField (now (field .entry)) ⌝ }
+{
+    if field[0] != b' ' {
+        return false;
+    }
+    are_digits(&field[1..])
+}
+
+fn are_digits(bytes: &[u8]) -> bool
+    ensures { λ r. ⌜ r ≡ areDigits (now (bytes .entry)) ⌝ }
+{
+    let mut i = 0;
+    while i < bytes.len() {
+        if 15 < hex::digit(bytes[i]) {
+            return false;
+        }
+        i += 1;
+    }
+    true
+}
+
+// The bytes of a field, of which there are as many as the buffer has.
+fn read_field(field: &[u8], out: &mut [u8])
+    requires { ⌜ (isField (now field) ≡ true) × (length (now field) ≡ 2 * length (now out) + 1) ⌝ }
+    ensures { λ _. ⌜ now (out .exit) ≡ fieldBytes (now (field .entry)) ⌝ }
+{
+    let mut i = 0;
+    while i < out.len() {
+        out[i] = byte(field[2 * i + 1], field[2 * i + 2]);
+        i += 1;
+    }
+}
+
+// A byte of two digits.
+fn byte(high: u8, low: u8) -> u8
+    requires { ⌜ (digitOf high < 16) × (digitOf low < 16) ⌝ }
+    ensures { λ r. ⌜ r ≡ byteOf high low ⌝ }
+{
+    (16 * hex::digit(high) + hex::digit(low)) as u8
+}
+
+// The script's report beside the line's.
+fn beside(letter: u8, rates: [u8; 3], state: &[u8], script: &[u8], report: &[u8]) -> Verdict
+    ensures { λ r. ⌜ r ≡ besideScript letter (oursOf rates (now (state .entry)) (now (script .entry))) (now (report .entry)) ⌝ }
+{
+    let pre = PhredScore(rates[0]);
+    let post = PhredScore(rates[1]);
+    let mut ours = [0u8; REPORT];
+    let n = history_script::from_state(pre, post, rates[2], state, script, &mut ours);
+    if n != 91 {
+        return Verdict::NotAnAnswer;
+    }
+    if same_bytes(&ours, report) {
+        return Verdict::Equal(letter);
+    }
+    Verdict::Differs(letter)
+}
+
+fn same_bytes(a: &[u8], b: &[u8]) -> bool
+    ensures { λ r. ⌜ r ≡ sameBytes (now (a .entry)) (now (b .entry)) ⌝ }
+{
+    if a.len() != b.len() {
+        return false;
+    }
+    let mut same = 0;
+    while same < a.len() {
+        if a[same] != b[same] {
+            return false;
+        }
+        same += 1;
+    }
+    true
+}
