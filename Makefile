@@ -1,5 +1,9 @@
 # `make help` lists what can be made.
 
+# A recipe stops at the first command that fails, also where its output goes on into another.
+SHELL := bash
+.SHELLFLAGS := -eu -o pipefail -c
+
 # How many arguments of each range `make differential` compares, how many histories of the builder,
 # and how many builders of any state.
 ARGUMENTS ?= 10000000
@@ -24,12 +28,15 @@ unexport EXPORTS_FOLDER
 help: ## list the targets
 	@sed -n 's/^\([a-z]*\):[^#]*## \(.*\)/\1\t\2/p' $(MAKEFILE_LIST) | expand -t 14
 
-# rt ci removes target/ first, so what the comparison built there is gone afterwards. It comes last:
-# where its line 'N passed, 0 failed' is printed, all before it held.
-test: ## everything: layout, comparison beside the Rust, then all proofs from nothing
+# rt ci removes target/ and proves all from nothing, so the comparison comes after it: its library is
+# then made of what has just been proved. The line 'N passed, 0 failed' is printed again as the last:
+# where it stands there, the comparison held too.
+test: ## everything: layout, all proofs from nothing, comparison beside the Rust
 	rt fmt --check
-	@$(MAKE) --no-print-directory differential ARGUMENTS=1000000 HISTORIES=200000 BUILDERS=5000
-	rt ci
+	@log=$$(mktemp); trap 'rm -f "$$log"' EXIT; \
+	rt ci 2>&1 | tee "$$log"; \
+	$(MAKE) --no-print-directory differential ARGUMENTS=1000000 HISTORIES=200000 BUILDERS=5000; \
+	tail -n 1 "$$log"
 
 check: ## prove what changed, and run the programs
 	rt check

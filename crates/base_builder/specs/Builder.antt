@@ -1,6 +1,6 @@
 -- The builder of one position and its calls. Definitions only.
 use Prim.Native.Nat.{ℕ, _+_, _%_, _^_, min}
-use mathlib.Core.Bool.{Bool, _||_}
+use mathlib.Core.Bool.{Bool, not, _&&_, _||_}
 use mathlib.Core.List.{List, [], _∷_}
 use lib.Dec.{leb, ltb, eqb}
 use lib.ListN.{getD, replicate}
@@ -97,6 +97,12 @@ answerOf base b =
 abbrev pub numberOf : Answer → ℕ
 numberOf Accepted = 0
 numberOf Refused = 11
+
+-- the number of the refusal that a byte meets, 0 for none: 11 for a base at a full builder
+unfoldable pub refusalOf : ℕ → ConsensusBaseBuilder → ℕ
+refusalOf base b =
+    if not (eqb (laneOfByte base) noLane) && isFull b then 11
+    else 0
 
 -- the number of bases that contributed, in 32 bits
 unfoldable pub contributionsOf : ConsensusBaseBuilder → ℕ

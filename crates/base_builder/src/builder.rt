@@ -3,7 +3,7 @@
 ghost use mathlib.Core.Path.{_≡_};
 ghost use mathlib.Core.Bool.{false};
 ghost use Prim.Native.Nat.{_<_};
-ghost use Rattle.base_builder.specs.Builder.{total as totalOf, cleared as clearedOf, newAt, withRule, resetOf, movedLane, sumOf, observed as observedOf, isFull, entryOf, added, answerOf, contributionsOf, observationsForBase};
+ghost use Rattle.base_builder.specs.Builder.{total as totalOf, cleared as clearedOf, newAt, withRule, resetOf, movedLane, sumOf, observed as observedOf, isFull, entryOf, added, answerOf, numberOf, refusalOf, contributionsOf, observationsForBase};
 use crate::observation::Sum;
 use crate::observation::count;
 use crate::observation::moved;
@@ -85,6 +85,7 @@ impl ConsensusBaseBuilder {
     pub fn add(self, base: u8, qual: PhredScore, tables: AdjustedProbabilityTables) -> Addition
         ensures builder { λ r. ⌜ r .builder ≡ added (tables .correct) (tables .«error_per_alt») base (qual .0) self ⌝ }
         ensures answer { λ r. ⌜ r .answer ≡ answerOf base self ⌝ }
+        ensures number { λ r. ⌜ numberOf (r .answer) ≡ refusalOf base self ⌝ }
     {
         let correct = tables.correct;
         let error_per_alt = tables.error_per_alt;
@@ -153,6 +154,7 @@ pub fn add_with(
 ) -> Addition
     ensures builder { λ r. ⌜ r .builder ≡ added (now (correct .entry)) (now («error_per_alt» .entry)) base (qual .0) builder ⌝ }
     ensures answer { λ r. ⌜ r .answer ≡ answerOf base builder ⌝ }
+    ensures number { λ r. ⌜ numberOf (r .answer) ≡ refusalOf base builder ⌝ }
 {
     let k = lane_of(base);
     if k == NO_LANE {

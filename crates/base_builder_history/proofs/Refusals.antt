@@ -9,25 +9,29 @@ use lib.Ieee.{Float}
 use Rattle.float.specs.Ops.{if_then_else_}
 use Rattle.tie_rules.specs.Lanes.{noLane, laneOfByte}
 use Rattle.base_builder.specs.declared.builder.ConsensusBaseBuilder.{ConsensusBaseBuilder}
-use Rattle.base_builder.specs.declared.builder.Answer.the-variants.{Accepted, Refused}
-use Rattle.base_builder.specs.Builder.{isFull, observed, added, answerOf, numberOf}
+use Rattle.base_builder.specs.Builder.{isFull, added, refusalOf}
+
+-- the number where a base meets a full builder, and elsewhere
+abbrev refusal : Bool → ℕ
+refusal f =
+    if f then 11
+    else 0
 
 -- the number is 11 exactly where the byte is a base and the builder is full
-pub refused-where : (base : ℕ) (b : ConsensusBaseBuilder) → eqb (numberOf (answerOf base b)) 11 ≡ (not (eqb (laneOfByte base) noLane) && isFull b)
-unfolding answerOf
-refused-where base b = go (eqb (laneOfByte base) noLane) (isFull b)
+pub refused-where : (base : ℕ) (b : ConsensusBaseBuilder) → eqb (refusalOf base b) 11 ≡ (not (eqb (laneOfByte base) noLane) && isFull b)
+unfolding refusalOf
+refused-where base b = go (not (eqb (laneOfByte base) noLane) && isFull b)
   where
-    go : (n f : Bool) → eqb (numberOf (if n then Accepted else if f then Refused else Accepted)) 11 ≡ (not n && f)
-    go true f = refl
-    go false true = refl
-    go false false = refl
+    go : (f : Bool) → eqb (refusal f) 11 ≡ f
+    go true = refl
+    go false = refl
 
 -- and then the builder is the same
-pub refused-unchanged : (correct error : List Float) (base q : ℕ) (b : ConsensusBaseBuilder) → numberOf (answerOf base b) ≡ 11 → added correct error base q b ≡ b
-unfolding answerOf added
+pub refused-unchanged : (correct error : List Float) (base q : ℕ) (b : ConsensusBaseBuilder) → refusalOf base b ≡ 11 → added correct error base q b ≡ b
+unfolding refusalOf added
 refused-unchanged correct error base q b = go (eqb (laneOfByte base) noLane) (isFull b) _
   where
-    go : (n f : Bool) (b' : ConsensusBaseBuilder) → numberOf (if n then Accepted else if f then Refused else Accepted) ≡ 11 → (if n || f then b else b') ≡ b
+    go : (n f : Bool) (b' : ConsensusBaseBuilder) → refusal (not n && f) ≡ 11 → (if n || f then b else b') ≡ b
     go true f b' e = refl
     go false true b' e = refl
     go false false b' e = absurd (omega arith)

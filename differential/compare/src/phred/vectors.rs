@@ -2,6 +2,8 @@
 
 use std::collections::HashSet;
 
+use oracle::phred::phred_to_ln_error_prob;
+
 use super::arguments::{Arguments, USUAL_LANES, arrays, chosen, each, each_pair, special_numbers};
 use super::function::{FUNCTIONS, Function};
 use super::ranges::ranges;
@@ -35,7 +37,9 @@ fn lines_of(function: &'static Function, random: &mut Random) -> Result<Lines, S
 fn always_stored(function: &'static Function, random: &mut Random) -> Vec<Arguments> {
     match function.letter {
         b'q' | b'r' => chosen(function).into_iter().flat_map(|chosen| chosen.arguments).collect(),
-        b'f' | b'g' | b'c' | b'n' => each(&[special_numbers(), phred_points()].concat()),
+        b'f' | b'g' | b'c' | b'n' => {
+            each(&[special_numbers(), phred_points(), vec![above_the_highest()]].concat())
+        }
         b'd' | b't' | b's' | b'z' => {
             let mut pairs =
                 each_pair(&[f64::NAN, f64::NEG_INFINITY, f64::INFINITY, -0.0, 0.0, 1.0]);
@@ -50,6 +54,11 @@ fn always_stored(function: &'static Function, random: &mut Random) -> Vec<Argume
         }
         letter => unreachable!("no function has the letter {}", letter as char),
     }
+}
+
+/// The logarithm of level 94, which comes back as 93.
+fn above_the_highest() -> f64 {
+    phred_to_ln_error_prob(94)
 }
 
 /// Each special number before and after 0, so that a limit is how far they are apart.

@@ -1,6 +1,6 @@
 -- `add_with`: ignored, refused or counted. Assumes nothing.
 use borrow.Author.Tests.{eq-eqb, ne-eqb, le-leb, lt-leb}
-use Rattle.base_builder.specs.Builder.{isFull, added, answerOf}
+use Rattle.base_builder.specs.Builder.{isFull, added, answerOf, refusalOf}
 use borrow.Author.Needs.{needs}
 use Rattle.base_builder.proofs.builder.add_with.Statement.{statement}
 use Rattle.base_builder.proofs.builder.add_with.Tie as tie
@@ -9,18 +9,23 @@ lane-of-requires : tie.Need-lane-of-requires
 lane-of-requires c κs = search needs
 
 returns : tie.Need-returns
-unfolding added answerOf
-returns c = (rw (← c .before .lane-of .ensures, eq-eqb _ _ (c .if1 .taken)), rw (← c .before .lane-of .ensures, eq-eqb _ _ (c .if1 .taken)))
+unfolding added answerOf refusalOf
+returns c =
+    let k = c .before .lane-of .ensures in
+    let n = eq-eqb _ _ (c .if1 .taken) in
+    (rw (← k, n), (rw (← k, n), rw (← k, n)))
 
 total-requires : tie.Need-total-requires
 total-requires c κs = search needs
 
 returns-2 : tie.Need-returns-2
-unfolding added answerOf isFull
+unfolding added answerOf refusalOf isFull
 returns-2 c =
     let k = c .before .before .before .before .lane-of .ensures in
     let n = ne-eqb _ _ (c .before .before .before .if1 .left) in
-    (rw (← k, n, ← c .before .total .ensures, le-leb _ _ (c .if2 .taken)), rw (← k, n, ← c .before .total .ensures, le-leb _ _ (c .if2 .taken)))
+    let t = c .before .total .ensures in
+    let f = le-leb _ _ (c .if2 .taken) in
+    (rw (← k, n, ← t, f), (rw (← k, n, ← t, f), rw (← k, n, ← t, f)))
 
 entry-requires : tie.Need-entry-requires
 entry-requires c κs = search needs
@@ -41,12 +46,13 @@ observed-requires : tie.Need-observed-requires
 observed-requires c κs = search needs
 
 returns-3 : tie.Need-returns-3
-unfolding added answerOf isFull
+unfolding added answerOf refusalOf isFull
 returns-3 c =
     let k = c .before .before .before .before .before .before .before .before .lane-of .ensures in
     let n = ne-eqb _ _ (c .before .before .before .before .before .before .before .if1 .left) in
+    let t = c .before .before .before .before .before .total .ensures in
     let f = lt-leb _ _ (c .before .before .before .before .if2 .left) in
-    (rw (← k, n, ← c .before .before .before .before .before .total .ensures, f, ← c .before .before .before .entry .ensures) (c .observed .ensures), rw (← k, n, ← c .before .before .before .before .before .total .ensures, f))
+    (rw (← k, n, ← t, f, ← c .before .before .before .entry .ensures) (c .observed .ensures), (rw (← k, n, ← t, f), rw (← k, n, ← t, f)))
 
 pub add-with-spec : {M : Type 1} → statement M
 add-with-spec =

@@ -24,7 +24,7 @@ set-tie-rule-requires c κs = search needs
 
 returns : tie.Need-returns
 unfolding itemOf passed step answered
-returns c = rw (c .before .before .before .match .keys1, ← c .before .before .add-with .ensures .0, ← c .before .before .add-with .ensures .1, c .refusals-after .ensures)
+returns c = rw (c .before .before .before .match .keys1, ← c .before .before .add-with .ensures .0, ← c .before .before .add-with .ensures .1 .0, c .refusals-after .ensures)
 
 returns-2 : tie.Need-returns-2
 unfolding itemOf passed step answered
