@@ -14,8 +14,7 @@ use Rattle.base_builder.specs.declared.observation.Sum.{Sum}
 use Rattle.base_builder.specs.declared.builder.ConsensusBaseBuilder.{ConsensusBaseBuilder}
 use Rattle.base_builder.specs.declared.builder.Answer.{Answer}
 use Rattle.base_builder.specs.declared.builder.Answer.the-variants.{Accepted, Refused}
-use Rattle.lane_calls.specs.Unanimous.{counted}
-use Rattle.tie_rules.specs.Lanes.{lanes, lane, noLane, laneOfByte}
+use Rattle.tie_rules.specs.Lanes.{lanes, lane, noLane, laneOfByte, counted}
 use Rattle.base_builder.specs.Observation.{movedBy, valueOf, countOf}
 
 -- all counts together

@@ -19,6 +19,7 @@ use Rattle.phred.specs.Phred.{lnZero}
 use Rattle.tie_rules.specs.declared.tie_rule.Run.{Run}
 use Rattle.tie_rules.specs.declared.tie_rule.TieRule.{TieRule}
 use Rattle.tie_rules.specs.declared.tie_rule.TieRule.the-variants.{UlpRelative, FgbioCompat}
+use Rattle.tie_rules.proofs.Lanes.{below-all}
 use Rattle.tie_rules.specs.Lanes.{lane, noLane, allBelow}
 use Rattle.tie_rules.specs.Ties.{fgbioTie, fgbioTested, tiesWith, untied, noneAbove, taken, cancelled, fgbioStep, ulpStep, scan, unseen, lowest, fgbioUniqueMaxIndex, uniqueMaxIndex, notMinusInfinity, uniqueMaxIndexWith}
 use Rattle.lane_calls.specs.declared.call.Reply.the-variants.{Deferred}
@@ -54,12 +55,6 @@ still : (x y z : Float) → lt y x ≡ true → lt y z ≡ false → lt x z ≡ 
 still x y z h k = refuted (lt x z) (λ t. clash k (lt-trans y x z h t))
 
 -- ---- claims on every lane below n
-
--- from each to all
-below-all : (n : ℕ) (p : ℕ → Bool) → ((j : ℕ) → j < n → p j ≡ true) → allBelow n p ≡ true
-unfolding allBelow
-below-all zero p f = refl
-below-all (suc n) p f = rw (below-all n p (λ j h. f j (omega arith))) (f n (omega arith))
 
 -- one lane more: it, or one before
 one-more : (P : ℕ → Type 0) (n : ℕ) → P n → ((j : ℕ) → j < n → P j) → (j : ℕ) → j < suc n → P j

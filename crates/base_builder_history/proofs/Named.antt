@@ -17,18 +17,10 @@ use Rattle.phred.specs.Phred.{lnZero}
 use Rattle.tie_rules.specs.declared.tie_rule.Run.{Run}
 use Rattle.tie_rules.specs.declared.tie_rule.TieRule.{TieRule}
 use Rattle.tie_rules.specs.declared.tie_rule.TieRule.the-variants.{UlpRelative, FgbioCompat}
+use Rattle.tie_rules.proofs.Lanes.{below-at}
 use Rattle.tie_rules.specs.Lanes.{lane, noLane, allBelow}
 use Rattle.tie_rules.specs.Ties.{fgbioTie, fgbioTested, tiesWith, untied, fgbioStep, ulpStep, scan, taken, unseen, lowest, fgbioUniqueMaxIndex, uniqueMaxIndex, notMinusInfinity, uniqueMaxIndexWith}
 use Rattle.base_builder_history.proofs.Scan.{FgbioUnder, UlpUnder, fgbio-wins, ulp-wins, wins}
-
--- what holds below n holds of each
-pub below-at : (n : ℕ) (p : ℕ → Bool) (j : ℕ) → allBelow n p ≡ true → j < n → p j ≡ true
-unfolding allBelow
-below-at zero p j t h = absurd (omega arith)
-below-at (suc n) p j t h = elim (eq-or-lt-of-le (le-of-suc-le-suc h)) [
-  | inl e ↦ ap p e ∙ both (allBelow n p) (p n) t .1
-  | inr l ↦ below-at n p j (both (allBelow n p) (p n) t .0) l
-]
 
 -- of another lane, the second half of 'i or ..'
 pub other : (i j : ℕ) (p : Bool) → j ≢ i → (eqb i j || p) ≡ true → p ≡ true

@@ -16,9 +16,8 @@ use Rattle.phred.specs.declared.LogProbability.{LogProbability}
 use Rattle.rate_tables.specs.declared.adjusted.AdjustedProbabilityTables.{AdjustedProbabilityTables}
 use Rattle.rate_tables.specs.Adjusted.{adjustedTables}
 use Rattle.tie_rules.specs.declared.tie_rule.TieRule.{TieRule}
-use Rattle.tie_rules.specs.Lanes.{lane, lanes, noLane, laneOfByte}
+use Rattle.tie_rules.specs.Lanes.{lane, lanes, noLane, laneOfByte, counted}
 use Rattle.tie_rules.proofs.Lanes.{lanes-at}
-use Rattle.lane_calls.specs.Unanimous.{counted}
 use Rattle.base_builder.specs.declared.builder.ConsensusBaseBuilder.{ConsensusBaseBuilder}
 use Rattle.base_builder.specs.Observation.{movedBy, valueOf, countOf}
 use Rattle.base_builder.specs.Builder.{total, cleared, newAt, withRule, resetOf, sumOf, movedLane, observed, entryOf, isFull, added}

@@ -13,12 +13,13 @@ use Rattle.float.specs.Ops.{_⊖_, bits, if_then_else_}
 use Rattle.float.proofs.Cases.{both, clash}
 use Rattle.rate_tables.specs.Gaps.{gapTables}
 use Rattle.tie_rules.specs.declared.tie_rule.TieRule.{TieRule}
-use Rattle.tie_rules.specs.Lanes.{lane, noLane, baseOf, allBelow}
+use Rattle.tie_rules.proofs.Lanes.{below-at}
+use Rattle.tie_rules.specs.Lanes.{lane, noLane, baseOf, allBelow, counted}
 use Rattle.tie_rules.specs.Ties.{untied}
 use Rattle.lane_calls.specs.declared.call.Call.{Call}
 use Rattle.lane_calls.specs.declared.call.Reply.{Reply}
 use Rattle.lane_calls.specs.declared.call.Reply.the-variants.{Replied, Deferred}
-use Rattle.lane_calls.specs.Unanimous.{counted, firstSeen, soleLane, leads}
+use Rattle.lane_calls.specs.Unanimous.{firstSeen, soleLane, leads}
 use Rattle.base_builder.specs.declared.builder.ConsensusBaseBuilder.{ConsensusBaseBuilder}
 use Rattle.base_builder.specs.Calls.{unanimousOf, multibaseOf, callFullOf}
 use Rattle.base_builder_history.specs.History.{Event, after}
@@ -26,7 +27,7 @@ use Rattle.base_builder_history.specs.Demand3.{Agrees}
 use Rattle.base_builder_history.specs.Laws.{ruled}
 use Rattle.base_builder_history.proofs.Lanes.{alike}
 use Rattle.base_builder_history.proofs.Gap.{gap-lt}
-use Rattle.base_builder_history.proofs.Named.{below-at, other, named}
+use Rattle.base_builder_history.proofs.Named.{other, named}
 use Rattle.base_builder_history.proofs.OwnTables.{Names}
 use Rattle.base_builder_history.proofs.Replies.{asked, unanimous-by, multibase-by, full-base}
 

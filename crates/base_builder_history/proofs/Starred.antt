@@ -12,9 +12,8 @@ use Rattle.phred.specs.Phred.{lnZero, phredToLnErrorProb, lnProbToPhred}
 use Rattle.rate_tables.specs.declared.adjusted.AdjustedProbabilityTables.{AdjustedProbabilityTables}
 use Rattle.rate_tables.specs.declared.gaps.UnanimousGapTables.{UnanimousGapTables}
 use Rattle.tie_rules.specs.declared.tie_rule.TieRule.the-variants.{UlpRelative, FgbioCompat}
-use Rattle.tie_rules.specs.Lanes.{baseOf, laneOfByte, allBelow}
+use Rattle.tie_rules.specs.Lanes.{baseOf, laneOfByte, allBelow, counted}
 use Rattle.tie_rules.specs.Ties.{fgbioTie, nearPatterns, ulpTie, tiesWith, untied, fgbioStep, ulpStep, scan, fgbioUniqueMaxIndex, uniqueMaxIndex, notMinusInfinity, uniqueMaxIndexWith}
-use Rattle.lane_calls.specs.Unanimous.{counted}
 use Rattle.base_builder.specs.declared.builder.ConsensusBaseBuilder.{ConsensusBaseBuilder}
 use Rattle.base_builder.specs.Builder.{newAt, cleared, total, contributionsOf, added}
 use Rattle.base_builder.specs.Calls.{callOf}

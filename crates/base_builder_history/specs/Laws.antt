@@ -5,9 +5,8 @@ use Prim.Native.Nat.{ℕ, _≤_, _<_}
 use Rattle.rate_tables.specs.Adjusted.{adjustedTables}
 use Rattle.rate_tables.specs.Gaps.{gapTables}
 use Rattle.tie_rules.specs.declared.tie_rule.TieRule.{TieRule}
-use Rattle.tie_rules.specs.Lanes.{noLane, baseOf}
+use Rattle.tie_rules.specs.Lanes.{noLane, baseOf, counted}
 use Rattle.tie_rules.specs.Ties.{uniqueMaxIndexWith}
-use Rattle.lane_calls.specs.Unanimous.{counted}
 use Rattle.base_builder.specs.declared.builder.ConsensusBaseBuilder.{ConsensusBaseBuilder}
 use Rattle.base_builder.specs.Builder.{total, sumOf, contributionsOf}
 use Rattle.base_builder.specs.Calls.{callOf}

@@ -9,8 +9,7 @@ use Rattle.rate_tables.specs.declared.adjusted.AdjustedProbabilityTables.{Adjus
 use Rattle.rate_tables.specs.declared.gaps.UnanimousGapTables.{UnanimousGapTables}
 use Rattle.lane_calls.specs.declared.call.Reply.{Reply}
 use Rattle.lane_calls.specs.declared.call.Reply.the-variants.{Replied, Deferred}
-use Rattle.lane_calls.specs.Unanimous.{counted}
-use Rattle.tie_rules.specs.Lanes.{lane}
+use Rattle.tie_rules.specs.Lanes.{lane, counted}
 use Rattle.base_builder.specs.declared.builder.ConsensusBaseBuilder.{ConsensusBaseBuilder}
 use Rattle.base_builder.specs.Calls.{unanimousOf, multibaseOf}
 use Rattle.history_script.specs.declared.script.Progress.{Progress}

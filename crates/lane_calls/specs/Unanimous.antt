@@ -3,23 +3,18 @@ use Prim.Native.Nat.{ℕ, _+_, _-_, _%_}
 use mathlib.Core.Bool.{Bool, not, _&&_, _||_}
 use mathlib.Core.List.{List}
 use lib.Dec.{ltb, eqb}
-use lib.ListN.{getD}
 use lib.Ieee.{Float, lt, le}
 use lib.Ieee.Scale.{finite}
 use Rattle.float.specs.Ops.{_⊖_, _⊗_, bits, one, if_then_else_}
 use Rattle.phred.specs.Phred.{lnTwo}
 use Rattle.rate_tables.specs.declared.gaps.UnanimousGapTables.{UnanimousGapTables}
 use Rattle.tie_rules.specs.declared.tie_rule.TieRule.{TieRule}
-use Rattle.tie_rules.specs.Lanes.{lane, noLane, allBelow}
+use Rattle.tie_rules.specs.Lanes.{lane, counted, noLane, allBelow}
 use Rattle.tie_rules.specs.Ties.{untied}
 use Rattle.lane_calls.specs.declared.call.Reply.{Reply}
 use Rattle.lane_calls.specs.declared.call.Reply.the-variants.{Replied, Deferred}
 use Rattle.lane_calls.specs.Calls.{called, outside, unanimousMargin}
 use Rattle.lane_calls.specs.Search.{entry, partitionPoint}
-
--- the count of lane i
-abbrev pub counted : List ℕ → ℕ → ℕ
-counted ns i = getD ns i 0
 
 -- the first lane that was observed, or none
 unfoldable pub firstSeen : List ℕ → ℕ

@@ -1,13 +1,13 @@
 -- What the definitions on lanes say of an arbitrary lane. Assumes nothing.
-use mathlib.Core.Path.{_≡_, refl, ap, subst}
+use mathlib.Core.Path.{_≡_, refl, ap, _∙_, subst}
 use mathlib.Core.Bool.{Bool, true, false, _&&_}
-use mathlib.Core.Logic.{⊎-elim}
+use mathlib.Core.Logic.{inl, inr, ⊎-elim}
 use Prim.Native.Nat.{ℕ, zero, suc, _+_, _<_}
 use native.Mathlib.Nat.{eq-or-lt-of-le, le-of-suc-le-suc, not-suc-le-zero}
 use native.Mathlib.Numerals.{add-one}
 use native.Mathlib.Omega.{arith}
 use lib.ListN.{getD}
-use Rattle.float.proofs.Cases.{and-false}
+use Rattle.float.proofs.Cases.{both, and-false}
 use Rattle.tie_rules.specs.Lanes.{lanes, allBelow}
 
 -- one more lane of which the claim holds
@@ -25,6 +25,21 @@ unfolding allBelow
 below-stop zero p j h e = absurd (not-suc-le-zero h)
 below-stop (suc n) p j h e =
     ⊎-elim (λ k. rw (subst (λ (i : ℕ). p i ≡ false) k e) (and-false (allBelow n p))) (λ k. rw (below-stop n p j k e)) (eq-or-lt-of-le (le-of-suc-le-suc h))
+
+-- what holds below n holds of each
+pub below-at : (n : ℕ) (p : ℕ → Bool) (j : ℕ) → allBelow n p ≡ true → j < n → p j ≡ true
+unfolding allBelow
+below-at zero p j t h = absurd (omega arith)
+below-at (suc n) p j t h = elim (eq-or-lt-of-le (le-of-suc-le-suc h)) [
+  | inl e ↦ ap p e ∙ both (allBelow n p) (p n) t .1
+  | inr l ↦ below-at n p j (both (allBelow n p) (p n) t .0) l
+]
+
+-- from each to all
+pub below-all : (n : ℕ) (p : ℕ → Bool) → ((j : ℕ) → j < n → p j ≡ true) → allBelow n p ≡ true
+unfolding allBelow
+below-all zero p f = refl
+below-all (suc n) p f = rw (below-all n p (λ j h. f j (omega arith))) (f n (omega arith))
 
 -- what lane i of four holds
 pub lanes-at : {A : Type 0} (f : ℕ → A) (d : A) (i : ℕ) → i < 4 → getD (lanes f) i d ≡ f i

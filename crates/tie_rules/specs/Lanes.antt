@@ -15,6 +15,10 @@ lanes f = f 0 ∷ f 1 ∷ f 2 ∷ f 3 ∷ []
 abbrev pub lane : List Float → ℕ → Float
 lane xs i = getD xs i nan
 
+-- how often its base was counted
+abbrev pub counted : List ℕ → ℕ → ℕ
+counted ns i = getD ns i 0
+
 -- the number that says that there is no lane
 abbrev pub noLane : ℕ
 noLane = 4

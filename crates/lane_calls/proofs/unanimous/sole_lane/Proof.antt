@@ -9,8 +9,8 @@ use lib.Dec.{eqb}
 use borrow.Author.Tests.{eq-eqb, ne-eqb}
 use borrow.Author.Needs.{needs}
 use Rattle.tie_rules.proofs.Lanes.{below-on, below-end, below-stop}
-use Rattle.tie_rules.specs.Lanes.{allBelow}
-use Rattle.lane_calls.specs.Unanimous.{counted, soleLane}
+use Rattle.tie_rules.specs.Lanes.{allBelow, counted}
+use Rattle.lane_calls.specs.Unanimous.{soleLane}
 use Rattle.lane_calls.proofs.unanimous.sole_lane.Statement.{statement}
 use Rattle.lane_calls.proofs.unanimous.sole_lane.Tie as tie
 
