@@ -20,7 +20,7 @@ use Rattle.tie_rules.specs.declared.tie_rule.Run.{Run}
 use Rattle.tie_rules.specs.declared.tie_rule.TieRule.{TieRule}
 use Rattle.tie_rules.specs.declared.tie_rule.TieRule.the-variants.{UlpRelative, FgbioCompat}
 use Rattle.tie_rules.proofs.Lanes.{below-all}
-use Rattle.tie_rules.specs.Lanes.{lane, noLane, allBelow}
+use Rattle.tie_rules.specs.Lanes.{lane, noLane}
 use Rattle.tie_rules.specs.Ties.{fgbioTie, fgbioTested, tiesWith, untied, noneAbove, taken, cancelled, fgbioStep, ulpStep, scan, unseen, lowest, fgbioUniqueMaxIndex, uniqueMaxIndex, notMinusInfinity, uniqueMaxIndexWith}
 use Rattle.lane_calls.specs.declared.call.Reply.the-variants.{Deferred}
 use Rattle.lane_calls.specs.Multibase.{restReply, multibaseReply}

@@ -1,12 +1,11 @@
 -- Corners of base_builder.rs: what a lane gets at post-UMI rate 0, and that a lane at -infinity is NaN after the next counted base. Assumes nothing.
-use mathlib.Core.Path.{_≡_, refl, sym, ap, _∙_}
+use mathlib.Core.Path.{_≡_, refl, ap, _∙_}
 use mathlib.Core.Bool.{Bool, true, false, Bool·beq}
-use Prim.Native.Nat.{ℕ, _+_, _≤_, _<_}
+use Prim.Native.Nat.{ℕ, _≤_}
 use native.Mathlib.Omega.{arith}
 use lib.Dec.{T, leb}
 use lib.ListN.{getD}
 use lib.Ieee.{Float, nan, inf, fin, add, sub, mul, div, neg, lt, le, eq, ne, isNan, ofBits, toBits, ofInt}
-use lib.Ieee.Fits.{and-i}
 use Rattle.float.specs.Ops.{_⊕_, _⊖_}
 use Rattle.float.specs.Claims.{all, every}
 use Rattle.float.proofs.Claims.{below}

@@ -1,10 +1,10 @@
 -- Demand 1 for a call: with the tables of any pre-UMI rate every builder whatever is called A, C, G or T with a quality of 2 to 93, or N with exactly 2; so
 -- do the long calculation and each shortcut that replies. Assumes nothing.
 use mathlib.Core.Path.{_≡_, refl}
-use mathlib.Core.Bool.{Bool, true, false, _&&_, _||_}
-use Prim.Native.Nat.{ℕ, zero, suc, _≤_, _<_}
+use mathlib.Core.Bool.{true}
+use Prim.Native.Nat.{ℕ, zero, suc, _<_}
 use native.Mathlib.Omega.{arith}
-use lib.Dec.{T, leb, eqb, ltb}
+use lib.Dec.{T, eqb, ltb}
 use borrow.Author.Tests.{le-leb, ltb-true}
 use Rattle.float.proofs.Cases.{both, choice}
 use Rattle.phred.proofs.Levels.{Level}
@@ -20,7 +20,7 @@ use Rattle.base_builder.specs.Builder.{contributionsOf}
 use Rattle.base_builder.specs.Calls.{unanimousOf, multibaseOf, callFullOf, longWay, callOf}
 use Rattle.base_builder_history.specs.Demand1.{isBase, isCall, repliesWell, Demand1}
 use Rattle.base_builder_history.proofs.OwnTables.{Names}
-use Rattle.base_builder_history.proofs.Replies.{asked, unanimous-by, multibase-by, full-by}
+use Rattle.base_builder_history.proofs.Replies.{unanimous-by, multibase-by, full-by}
 
 lane-is-base : (i : ℕ) → i < 4 → isBase (baseOf i) ≡ true
 unfolding baseOf

@@ -5,7 +5,6 @@ use mathlib.Core.List.{List, [], _∷_}
 use Prim.Native.Nat.{ℕ, _+_, _<_}
 use native.Mathlib.Omega.{arith}
 use lib.Dec.{eqb}
-use lib.Ieee.{Float}
 use Rattle.float.specs.Ops.{if_then_else_}
 use Rattle.rate_tables.specs.declared.adjusted.AdjustedProbabilityTables.{AdjustedProbabilityTables}
 use Rattle.rate_tables.specs.Adjusted.{adjustedTables}
@@ -13,10 +12,9 @@ use Rattle.tie_rules.specs.declared.tie_rule.TieRule.{TieRule}
 use Rattle.tie_rules.specs.Lanes.{lane, counted}
 use Rattle.base_builder.specs.declared.observation.Sum.{Sum}
 use Rattle.base_builder.specs.Observation.{valueOf}
-use Rattle.base_builder.specs.Builder.{sumOf}
 use Rattle.base_builder_history.specs.History.{Event, after}
 use Rattle.base_builder_history.specs.Counted.{Observation, countedSince, valuesOf, kahan, timesOf}
-use Rattle.base_builder_history.proofs.Run.{Holds, after-holds}
+use Rattle.base_builder_history.proofs.Run.{after-holds}
 
 -- none so far: not the latest, and none before
 none-yet : (c : Bool) (n : ℕ) → (if c then n + 1 else n) ≡ 0 → (c ≡ false) × (n ≡ 0)

@@ -1,14 +1,13 @@
 -- The laws of every list of events. Assumes nothing.
 use mathlib.Core.Path.{_≡_, refl, sym, ap, _∙_}
-use mathlib.Core.Bool.{Bool, true, false}
 use mathlib.Core.List.{List, [], _∷_}
-use Prim.Native.Nat.{ℕ, _+_, _%_, _^_, _≤_, _<_}
+use Prim.Native.Nat.{ℕ, _<_}
 use native.Mathlib.Omega.{arith}
 use lib.Dec.{eqb}
 use lib.ListN.{length}
-use lib.Ieee.{Float, lt, le, eq, sub, neg, div, isNan, ofBits, toBits}
+use lib.Ieee.{Float, lt, le, eq, sub, neg, div, isNan, ofBits}
 use borrow.Author.Tests.{eqb-true}
-use Rattle.float.specs.Ops.{nought, if_then_else_}
+use Rattle.float.specs.Ops.{nought}
 use Rattle.float.specs.Methods.{absOf}
 use Rattle.float.proofs.Cases.{choice}
 use Rattle.rate_tables.specs.Adjusted.{adjustedTables}
@@ -29,7 +28,7 @@ use Rattle.base_builder_history.specs.History.{Event, after}
 use Rattle.base_builder_history.specs.Counted.{Observation, countedSince, valuesOf, kahan}
 use Rattle.base_builder_history.specs.Demand3.{Agrees}
 use Rattle.base_builder_history.specs.Laws.{ruled, Laws}
-use Rattle.base_builder_history.proofs.Run.{Holds, after-holds}
+use Rattle.base_builder_history.proofs.Run.{after-holds}
 use Rattle.base_builder_history.proofs.Replies.{full-base}
 use Rattle.base_builder_history.proofs.SameBase.{unanimous-agrees, multibase-agrees}
 

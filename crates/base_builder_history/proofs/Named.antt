@@ -1,24 +1,21 @@
 -- A finite lane above all others, with which none ties as the rule tests it, is the one that the rule names. Assumes nothing.
 use mathlib.Core.Path.{_≡_, refl, sym, ap, _∙_}
-use mathlib.Core.Bool.{Bool, true, false, not, _&&_, _||_}
+use mathlib.Core.Bool.{Bool, true, false, not, _||_}
 use mathlib.Core.Logic.{_≢_}
 use mathlib.Core.List.{List}
-use Prim.Native.Nat.{ℕ, zero, suc, _+_, _≤_, _<_}
-use native.Mathlib.Nat.{eq-or-lt-of-le, le-of-suc-le-suc}
-use mathlib.Core.Logic.{inl, inr}
-use native.Mathlib.Omega.{arith}
-use lib.Dec.{eqb, ltb}
+use Prim.Native.Nat.{ℕ, _<_}
+use lib.Dec.{eqb}
 use lib.Ieee.{Float, nan, inf, fin, lt, eq, neg, div, isNan, ofBits}
 use lib.Ieee.Scale.{finite}
 use borrow.Author.Tests.{lt-ltb, ne-eqb, not-true}
-use Rattle.float.proofs.Cases.{both, clash}
+use Rattle.float.proofs.Cases.{clash}
 use Rattle.float.proofs.Order.{lt-asym}
 use Rattle.phred.specs.Phred.{lnZero}
 use Rattle.tie_rules.specs.declared.tie_rule.Run.{Run}
 use Rattle.tie_rules.specs.declared.tie_rule.TieRule.{TieRule}
 use Rattle.tie_rules.specs.declared.tie_rule.TieRule.the-variants.{UlpRelative, FgbioCompat}
 use Rattle.tie_rules.proofs.Lanes.{below-at}
-use Rattle.tie_rules.specs.Lanes.{lane, noLane, allBelow}
+use Rattle.tie_rules.specs.Lanes.{lane}
 use Rattle.tie_rules.specs.Ties.{fgbioTie, fgbioTested, tiesWith, untied, fgbioStep, ulpStep, scan, taken, unseen, lowest, fgbioUniqueMaxIndex, uniqueMaxIndex, notMinusInfinity, uniqueMaxIndexWith}
 use Rattle.base_builder_history.proofs.Scan.{FgbioUnder, UlpUnder, fgbio-wins, ulp-wins, wins}
 

@@ -1,30 +1,28 @@
 -- With the tables of a pre-UMI rate the unanimous shortcut reads nothing outside them: where it replies, it names its lane, with a quality of 2 to 93.
 -- Assumes nothing.
-use mathlib.Core.Path.{_≡_, refl, sym, ap, _∙_, subst}
-use mathlib.Core.Bool.{Bool, true, false, not, _&&_}
-use mathlib.Core.List.{List}
-use Prim.Native.Nat.{ℕ, zero, suc, _+_, _-_, _≤_, _<_}
+use mathlib.Core.Path.{_≡_, refl, _∙_}
+use mathlib.Core.Bool.{true, not}
+use Prim.Native.Nat.{ℕ, _-_, _≤_, _<_}
 use native.Mathlib.Omega.{arith}
-use lib.Dec.{T, leb, ltb, eqb}
 use lib.ListN.{getD}
 use lib.Ieee.{Float, nan, lt, le, ofBits}
 use lib.Ieee.Bits.{is-true}
 use lib.Ieee.Scale.{finite}
-use borrow.Author.Tests.{le-ltb, lt-ltb, le-leb, ne-eqb}
-use Rattle.float.specs.Ops.{_⊖_, _⊗_, bits, one, if_then_else_}
+use borrow.Author.Tests.{le-ltb, le-leb, ne-eqb}
+use Rattle.float.specs.Ops.{_⊖_, bits}
 use Rattle.float.proofs.Cases.{both, choice, clash}
 use Rattle.float.proofs.Order.{lt-trans, lt-le}
-use Rattle.phred.specs.Phred.{phredToLnErrorProb, lnProbToPhred, lnTwo}
+use Rattle.phred.specs.Phred.{phredToLnErrorProb}
 use Rattle.phred.proofs.Levels.{Level, levels}
 use Rattle.rate_tables.specs.declared.gaps.UnanimousGapTables.{UnanimousGapTables}
-use Rattle.rate_tables.specs.Thresholds.{gap0, gap256, threshold, thresholdWith, Thresholds}
+use Rattle.rate_tables.specs.Thresholds.{gap0, threshold, thresholdWith}
 use Rattle.rate_tables.specs.Gaps.{unanimousQualityFromGap, thresholdAt, capOf, gapTables}
 use Rattle.rate_tables.proofs.Filled.{level-at}
 use Rattle.rate_tables.proofs.Demand3.{thresholds-of-a-rate}
 use Rattle.tie_rules.specs.Lanes.{baseOf}
 use Rattle.lane_calls.specs.declared.call.Reply.{Reply}
 use Rattle.lane_calls.specs.declared.call.Reply.the-variants.{Replied, Deferred}
-use Rattle.lane_calls.specs.Calls.{called, outside, unanimousMargin}
+use Rattle.lane_calls.specs.Calls.{called, outside}
 use Rattle.lane_calls.specs.Search.{entry, partitionPoint}
 use Rattle.lane_calls.proofs.PartitionPoint.{point-above, point-below}
 use Rattle.lane_calls.specs.Unanimous.{leads, clearsCap, clearsLower, clearsUpper, capReply, bracketReply, gapReply}

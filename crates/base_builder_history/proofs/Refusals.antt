@@ -1,5 +1,5 @@
 -- Refusal 11: a base that meets 4,294,967,295 counted bases or more, and nothing else, and the builder stays as it was. Assumes nothing.
-use mathlib.Core.Path.{_≡_, refl, sym, _∙_}
+use mathlib.Core.Path.{_≡_, refl}
 use mathlib.Core.Bool.{Bool, true, false, not, _&&_, _||_}
 use mathlib.Core.List.{List}
 use Prim.Native.Nat.{ℕ}

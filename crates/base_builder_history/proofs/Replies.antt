@@ -1,21 +1,17 @@
 -- Which lane each calculation names, on any builder, with the tables of any pre-UMI rate. Assumes nothing.
-use mathlib.Core.Path.{_≡_, refl, sym, ap, _∙_}
+use mathlib.Core.Path.{_≡_, refl}
 use mathlib.Core.Bool.{Bool, true, false, _&&_}
-use mathlib.Core.List.{List}
-use Prim.Native.Nat.{ℕ, zero, suc, _+_, _%_, _≤_, _<_}
-use native.Mathlib.Omega.{arith}
+use Prim.Native.Nat.{ℕ, zero, suc, _+_, _%_, _<_}
 use lib.Dec.{ltb, eqb}
-use lib.Ieee.{Float}
 use lib.Ieee.Scale.{finite}
 use borrow.Author.Tests.{ltb-true}
-use Rattle.float.specs.Ops.{_⊕_, _⊖_, if_then_else_}
+use Rattle.float.specs.Ops.{_⊕_, _⊖_}
 use Rattle.float.proofs.Cases.{both, choice, clash}
 use Rattle.phred.specs.Phred.{lnProbToPhred}
 use Rattle.phred.proofs.Levels.{Level, levels}
 use Rattle.rate_tables.specs.Gaps.{gapTables}
-use Rattle.tie_rules.specs.declared.tie_rule.TieRule.{TieRule}
 use Rattle.tie_rules.specs.Lanes.{lane, noLane, baseOf}
-use Rattle.tie_rules.specs.Ties.{untied, noneAbove, uniqueMaxIndexWith}
+use Rattle.tie_rules.specs.Ties.{untied, noneAbove}
 use Rattle.lane_calls.specs.declared.call.Call.{Call}
 use Rattle.lane_calls.specs.declared.call.Reply.{Reply}
 use Rattle.lane_calls.specs.declared.call.Reply.the-variants.{Replied, Deferred}

@@ -1,25 +1,25 @@
 -- What a builder holds after a list of events, for an arbitrary lane: the sum of the lane's own values, and the number of its base's observations since the
 -- last reset. Assumes nothing.
-use mathlib.Core.Path.{_≡_, refl, sym, ap, _∙_, subst}
+use mathlib.Core.Path.{_≡_, refl, ap, _∙_}
 use mathlib.Core.Bool.{Bool, true, false, _||_, true≢false}
 use mathlib.Core.List.{List, [], _∷_}
 use Prim.Native.Nat.{ℕ, zero, suc, _+_, _%_, _^_, _≤_, _<_}
 use native.Mathlib.Omega.{arith}
 use lib.Dec.{leb, eqb}
 use lib.ListN.{getD, getD-replicate, length}
-use lib.Ieee.{Float, nan}
+use lib.Ieee.{nan}
 use borrow.Author.Tests.{eqb-false, leb-false}
 use Rattle.float.specs.Ops.{nought, if_then_else_}
-use Rattle.float.proofs.Cases.{choice, test}
+use Rattle.float.proofs.Cases.{choice}
 use Rattle.phred.specs.Phred.{phredToLnErrorProb}
 use Rattle.phred.specs.declared.LogProbability.{LogProbability}
 use Rattle.rate_tables.specs.declared.adjusted.AdjustedProbabilityTables.{AdjustedProbabilityTables}
 use Rattle.rate_tables.specs.Adjusted.{adjustedTables}
 use Rattle.tie_rules.specs.declared.tie_rule.TieRule.{TieRule}
-use Rattle.tie_rules.specs.Lanes.{lane, lanes, noLane, laneOfByte, counted}
+use Rattle.tie_rules.specs.Lanes.{lane, noLane, laneOfByte, counted}
 use Rattle.tie_rules.proofs.Lanes.{lanes-at}
 use Rattle.base_builder.specs.declared.builder.ConsensusBaseBuilder.{ConsensusBaseBuilder}
-use Rattle.base_builder.specs.Observation.{movedBy, valueOf, countOf}
+use Rattle.base_builder.specs.Observation.{countOf}
 use Rattle.base_builder.specs.Builder.{total, cleared, newAt, withRule, resetOf, sumOf, movedLane, observed, entryOf, isFull, added}
 use Rattle.base_builder_history.specs.History.{Event, add, reset, setTieRule, step, run, after}
 use Rattle.base_builder_history.specs.Counted.{Observation, countedSince, valuesOf, kahan, timesOf}

@@ -1,12 +1,12 @@
 -- After any list of events from a new builder: where a shortcut replies, the rule names its lane, which the long calculation calls. Assumes nothing.
 use mathlib.Core.Path.{_≡_, refl, sym, ap, _∙_}
-use mathlib.Core.Bool.{Bool, true, false, _&&_, _||_}
+use mathlib.Core.Bool.{Bool, true, false, _||_}
 use mathlib.Core.Logic.{_≢_}
 use mathlib.Core.List.{List}
-use Prim.Native.Nat.{ℕ, _+_, _%_, _≤_, _<_}
+use Prim.Native.Nat.{ℕ, _+_, _%_, _<_}
 use native.Mathlib.Omega.{arith}
 use lib.Dec.{ltb, eqb}
-use lib.Ieee.{Float, lt}
+use lib.Ieee.{lt}
 use lib.Ieee.Scale.{finite}
 use borrow.Author.Tests.{ltb-true, eqb-true}
 use Rattle.float.specs.Ops.{_⊖_, bits, if_then_else_}
@@ -16,7 +16,6 @@ use Rattle.tie_rules.specs.declared.tie_rule.TieRule.{TieRule}
 use Rattle.tie_rules.proofs.Lanes.{below-at}
 use Rattle.tie_rules.specs.Lanes.{lane, noLane, baseOf, allBelow, counted}
 use Rattle.tie_rules.specs.Ties.{untied}
-use Rattle.lane_calls.specs.declared.call.Call.{Call}
 use Rattle.lane_calls.specs.declared.call.Reply.{Reply}
 use Rattle.lane_calls.specs.declared.call.Reply.the-variants.{Replied, Deferred}
 use Rattle.lane_calls.specs.Unanimous.{firstSeen, soleLane, leads}

@@ -1,9 +1,8 @@
 -- Document 01's inputs that are marked with a star, in one list. The two on a new builder hold at any rate and with any tables. Assumes nothing.
 use mathlib.Core.Bool.{Bool, _&&_}
 use mathlib.Core.List.{List, [], _∷_}
-use Prim.Native.Nat.{ℕ, _+_, _*_, _^_}
+use Prim.Native.Nat.{ℕ, _^_}
 use lib.Dec.{T, eqb}
-use lib.ListN.{replicate}
 use lib.Ieee.{Float, nan, neg, lt, le, eq, isNan, add as add', sub, mul, div, ofBits, ofInt, toBits}
 use Rattle.float.specs.Ops.{_⊕_, _⊖_, bits, whole, one}
 use Rattle.float.specs.Methods.{absOf, floorOf}
@@ -17,7 +16,7 @@ use Rattle.tie_rules.specs.Ties.{fgbioTie, nearPatterns, ulpTie, tiesWith, unti
 use Rattle.base_builder.specs.declared.builder.ConsensusBaseBuilder.{ConsensusBaseBuilder}
 use Rattle.base_builder.specs.Builder.{newAt, cleared, total, contributionsOf, added}
 use Rattle.base_builder.specs.Calls.{callOf}
-use Rattle.base_builder_history.specs.History.{Event, add, step, run}
+use Rattle.base_builder_history.specs.History.{add, step, run}
 
 -- N, 2, counts 0
 abbrev pub isNew : UnanimousGapTables → ConsensusBaseBuilder → Bool

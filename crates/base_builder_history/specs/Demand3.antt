@@ -2,10 +2,8 @@
 use mathlib.Core.Path.{_≡_}
 use mathlib.Core.List.{List}
 use Prim.Native.Nat.{ℕ, _≤_}
-use lib.Dec.{eqb}
 use lib.ListN.{getD}
 use lib.Ieee.{nan}
-use Rattle.float.specs.Ops.{if_then_else_}
 use Rattle.phred.specs.Phred.{phredToLnErrorProb}
 use Rattle.rate_tables.specs.Thresholds.{Thresholds}
 use Rattle.rate_tables.specs.Gaps.{unanimousQualityFromGap, thresholdAt, gapTables}

@@ -12,7 +12,7 @@ pub struct Call {
 pub enum Reply {
     // The shortcut's own call.
     Replied(Call),
-    // The long calculation is to decide.
+    // Not for this shortcut to decide.
     Deferred,
 }
 

@@ -1,6 +1,6 @@
 // The shortcut where two or more bases were observed.
 ghost use mathlib.Core.Path.{_≡_};
-ghost use Prim.Native.Nat.{_≤_, _<_};
+ghost use Prim.Native.Nat.{_<_};
 ghost use Rattle.lane_calls.specs.Multibase.{restBelow, magnitudeBelow, finalError, deltaOf, stableReply, restReply, multibaseReply};
 use crate::call::Reply;
 use crate::call::called;

@@ -20,7 +20,7 @@ fn advance(thresholds: &[f64; 94], gap: f64, p: usize, s: usize) -> usize
 }
 
 // How many entries, from the first on, are at or below the gap, found by halving. So many steps serve
-// any table of 94 entries, and none of them is a guess that the processor can miss.
+// any table of 94 entries.
 pub fn partition_point(thresholds: &[f64; 94], gap: f64) -> usize
     ensures point { λ r. ⌜ r ≡ partitionPoint (now (thresholds .entry)) gap ⌝ }
     ensures held { λ r. ⌜ r ≤ 94 ⌝ }

@@ -1,4 +1,4 @@
-// The lanes of a position and the rules that name one of them, the first part of base_builder.rs.
+// The lanes of a position and the rules that name one of them, a part of base_builder.rs.
 mod lane;
 mod tie_rule;
 

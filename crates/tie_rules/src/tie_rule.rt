@@ -1,6 +1,6 @@
 // How a near-tie between the greatest likelihoods is resolved: the lane of the maximum, or none.
 ghost use mathlib.Core.Path.{_≡_};
-ghost use Prim.Native.Nat.{_≤_, _<_};
+ghost use Prim.Native.Nat.{_<_};
 ghost use mathlib.Core.Bool.{not, _||_};
 ghost use lib.Dec.{eqb};
 ghost use Rattle.tie_rules.specs.declared.tie_rule.TieRule.the-variants.{FgbioCompat};
