@@ -5,10 +5,11 @@ SHELL := bash
 .SHELLFLAGS := -eu -o pipefail -c
 
 # How many arguments of each range `make differential` compares, how many histories of the builder,
-# and how many builders of any state.
+# how many builders of any state, and how many sets of UMI strings of each drawn kind.
 ARGUMENTS ?= 10000000
 HISTORIES ?= 1000000
 BUILDERS ?= 20000
+SETS ?= 20000
 
 # Where `make vectors` writes the stored list of the Rust's answers.
 VECTORS ?= crates/replay/stdin
@@ -35,7 +36,7 @@ test: ## everything: layout, all proofs from nothing, comparison beside the Rust
 	rt fmt --check
 	@log=$$(mktemp); trap 'rm -f "$$log"' EXIT; \
 	rt ci 2>&1 | tee "$$log"; \
-	$(MAKE) --no-print-directory differential ARGUMENTS=300000 HISTORIES=200000 BUILDERS=5000; \
+	$(MAKE) --no-print-directory differential ARGUMENTS=300000 HISTORIES=200000 BUILDERS=5000 SETS=5000; \
 	tail -n 1 "$$log"
 
 check: ## prove what changed, and run the programs
@@ -49,7 +50,8 @@ differential: library ## compare with the Rust, bit for bit, where the Rust can 
 		differential/run phred --arguments $(ARGUMENTS) && \
 		differential/run tables && \
 		differential/run histories --histories $(HISTORIES) && \
-		differential/run builders --builders $(BUILDERS) || [ $$? -eq $(SKIPPED) ]
+		differential/run builders --builders $(BUILDERS) && \
+		differential/run umis --sets $(SETS) || [ $$? -eq $(SKIPPED) ]
 
 vectors: library ## write the stored list of the Rust's answers anew (VECTORS=FILE)
 	differential/run vectors $(VECTORS)

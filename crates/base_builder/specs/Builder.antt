@@ -78,12 +78,16 @@ entryOf q = min q 93
 unfoldable pub isFull : ConsensusBaseBuilder → Bool
 isFull b = leb 4294967295 (total (b .observations))
 
--- the builder after a base was added at a quality: a byte that is no base is ignored, and a full builder stays as it is
-unfoldable pub added : List Float → List Float → ℕ → ℕ → ConsensusBaseBuilder → ConsensusBaseBuilder
-added correct error base q b =
+-- the builder after a base was added with these two logarithms: a byte that is no base is ignored, and a full builder stays as it is
+unfoldable pub addedBy : Float → Float → ℕ → ConsensusBaseBuilder → ConsensusBaseBuilder
+addedBy correct error base b =
     let k = laneOfByte base in
     if eqb k noLane || isFull b then b
-    else observed (getD correct (entryOf q) nan) (getD error (entryOf q) nan) k b
+    else observed correct error k b
+
+-- after it was added at a quality
+unfoldable pub added : List Float → List Float → ℕ → ℕ → ConsensusBaseBuilder → ConsensusBaseBuilder
+added correct error base q b = addedBy (getD correct (entryOf q) nan) (getD error (entryOf q) nan) base b
 
 -- the answer: refused where a base meets a full builder
 unfoldable pub answerOf : ℕ → ConsensusBaseBuilder → Answer

@@ -3,7 +3,7 @@
 ghost use mathlib.Core.Path.{_≡_};
 ghost use mathlib.Core.Bool.{false};
 ghost use Prim.Native.Nat.{_<_};
-ghost use Rattle.base_builder.specs.Builder.{total as totalOf, cleared as clearedOf, newAt, withRule, resetOf, movedLane, sumOf, observed as observedOf, isFull, entryOf, added, answerOf, numberOf, refusalOf, contributionsOf, observationsForBase};
+ghost use Rattle.base_builder.specs.Builder.{total as totalOf, cleared as clearedOf, newAt, withRule, resetOf, movedLane, sumOf, observed as observedOf, isFull, entryOf, addedBy, added, answerOf, numberOf, refusalOf, contributionsOf, observationsForBase};
 use crate::observation::Sum;
 use crate::observation::count;
 use crate::observation::moved;
@@ -156,6 +156,21 @@ pub fn add_with(
     ensures answer { λ r. ⌜ r .answer ≡ answerOf base builder ⌝ }
     ensures number { λ r. ⌜ numberOf (r .answer) ≡ refusalOf base builder ⌝ }
 {
+    let q = entry(qual);
+    add_entry(builder, base, correct[q], error_per_alt[q])
+}
+
+// One observation, with its two entries of the tables.
+pub fn add_entry(
+    builder: ConsensusBaseBuilder,
+    base: u8,
+    correct: f64,
+    error_per_alt: f64,
+) -> Addition
+    ensures builder { λ r. ⌜ r .builder ≡ addedBy correct «error_per_alt» base builder ⌝ }
+    ensures answer { λ r. ⌜ r .answer ≡ answerOf base builder ⌝ }
+    ensures number { λ r. ⌜ numberOf (r .answer) ≡ refusalOf base builder ⌝ }
+{
     let k = lane_of(base);
     if k == NO_LANE {
         return Addition {
@@ -170,8 +185,7 @@ pub fn add_with(
             answer: Answer::Refused,
         };
     }
-    let q = entry(qual);
-    let builder = observed(builder, correct[q], error_per_alt[q], k);
+    let builder = observed(builder, correct, error_per_alt, k);
     Addition {
         builder,
         answer: Answer::Accepted,

@@ -1,4 +1,4 @@
--- After any list of events, lanes that were not observed are alike. Assumes nothing.
+-- Lanes that were not observed are alike. Assumes nothing.
 use mathlib.Core.Path.{_≡_, refl, sym, ap, _∙_}
 use mathlib.Core.Bool.{Bool, true, false}
 use mathlib.Core.List.{List, [], _∷_}
@@ -7,14 +7,12 @@ use native.Mathlib.Omega.{arith}
 use lib.Dec.{eqb}
 use Rattle.float.specs.Ops.{if_then_else_}
 use Rattle.rate_tables.specs.declared.adjusted.AdjustedProbabilityTables.{AdjustedProbabilityTables}
-use Rattle.rate_tables.specs.Adjusted.{adjustedTables}
-use Rattle.tie_rules.specs.declared.tie_rule.TieRule.{TieRule}
 use Rattle.tie_rules.specs.Lanes.{lane, counted}
+use Rattle.base_builder.specs.declared.builder.ConsensusBaseBuilder.{ConsensusBaseBuilder}
 use Rattle.base_builder.specs.declared.observation.Sum.{Sum}
 use Rattle.base_builder.specs.Observation.{valueOf}
-use Rattle.base_builder_history.specs.History.{Event, after}
-use Rattle.base_builder_history.specs.Counted.{Observation, countedSince, valuesOf, kahan, timesOf}
-use Rattle.base_builder_history.proofs.Run.{after-holds}
+use Rattle.base_builder_history.specs.Counted.{Observation, valuesOf, kahan, timesOf}
+use Rattle.base_builder_history.proofs.Run.{Holds}
 
 -- none so far: not the latest, and none before
 none-yet : (c : Bool) (n : ℕ) → (if c then n + 1 else n) ≡ 0 → (c ≡ false) × (n ≡ 0)
@@ -29,12 +27,8 @@ values-alike t i j (o ∷ os) g h =
     let y = none-yet (eqb j (o .at)) (timesOf j os) h in
     rw (x .0, y .0, values-alike t i j os (x .1) (y .1))
 
-pub alike : (pre post : ℕ) (rule : TieRule) (es : List Event) (i j : ℕ) → i < 4 → j < 4
-    → let b = after pre post rule es in
-    counted (b .observations) i ≡ 0 → counted (b .observations) j ≡ 0 → lane (b .likelihoods) i ≡ lane (b .likelihoods) j
-alike pre post rule es i j g h m n =
-    let t = adjustedTables post in
-    let os = countedSince [] es in
-    let had = after-holds pre post rule es in
+pub alike : (t : AdjustedProbabilityTables) (os : List Observation) (b : ConsensusBaseBuilder) → Holds t os b → (i j : ℕ) → i < 4 → j < 4
+    → counted (b .observations) i ≡ 0 → counted (b .observations) j ≡ 0 → lane (b .likelihoods) i ≡ lane (b .likelihoods) j
+alike t os b had i j g h m n =
     let e = values-alike t i j os (sym (had .counts i g) ∙ m) (sym (had .counts j h) ∙ n) in
     ap (λ (s : Sum). s .lane) (had .sums i g ∙ ap kahan e ∙ sym (had .sums j h))

@@ -10,6 +10,7 @@ use borrow.Author.Tests.{eqb-true}
 use Rattle.float.specs.Ops.{nought}
 use Rattle.float.specs.Methods.{absOf}
 use Rattle.float.proofs.Cases.{choice}
+use Rattle.rate_tables.specs.declared.adjusted.AdjustedProbabilityTables.{AdjustedProbabilityTables}
 use Rattle.rate_tables.specs.Adjusted.{adjustedTables}
 use Rattle.rate_tables.specs.Gaps.{gapTables}
 use Rattle.tie_rules.specs.declared.tie_rule.Run.{Run}
@@ -21,6 +22,7 @@ use Rattle.lane_calls.specs.declared.call.Call.{Call}
 use Rattle.lane_calls.specs.declared.call.Reply.{Reply}
 use Rattle.lane_calls.specs.declared.call.Reply.the-variants.{Replied, Deferred}
 use Rattle.lane_calls.specs.Calls.{noCall, repliedOr}
+use Rattle.base_builder.specs.declared.builder.ConsensusBaseBuilder.{ConsensusBaseBuilder}
 use Rattle.base_builder.specs.declared.observation.Sum.{Sum}
 use Rattle.base_builder.specs.Builder.{total, contributionsOf}
 use Rattle.base_builder.specs.Calls.{unanimousOf, multibaseOf, callFullOf, longWay, callOf}
@@ -28,7 +30,7 @@ use Rattle.base_builder_history.specs.History.{Event, after}
 use Rattle.base_builder_history.specs.Counted.{Observation, countedSince, valuesOf, kahan}
 use Rattle.base_builder_history.specs.Demand3.{Agrees}
 use Rattle.base_builder_history.specs.Laws.{ruled, Laws}
-use Rattle.base_builder_history.proofs.Run.{after-holds}
+use Rattle.base_builder_history.proofs.Run.{Holds, after-holds}
 use Rattle.base_builder_history.proofs.Replies.{full-base}
 use Rattle.base_builder_history.proofs.SameBase.{unanimous-agrees, multibase-agrees}
 
@@ -54,49 +56,49 @@ none : (os : List Observation) → length os ≡ 0 → os ≡ []
 none [] e = refl
 none (o ∷ os) e = absurd (omega arith)
 
-module _ (pre post : ℕ) (rule : TieRule) (es : List Event) where
-  in-all : total (after pre post rule es .observations) ≡ length (countedSince [] es)
-  unfolding total
-  in-all =
-      let had = after-holds pre post rule es in
-      rw (had .counts 0 (omega arith), had .counts 1 (omega arith), had .counts 2 (omega arith), had .counts 3 (omega arith)) (had .all)
-
-  nothing-counted : contributionsOf (after pre post rule es) ≡ 0 → ruled (after pre post rule es) ≡ noLane
-  unfolding contributionsOf valuesOf kahan
-  nothing-counted e =
-      let b = after pre post rule es in
-      let had = after-holds pre post rule es in
-      let n = in-all in
-      let most = had .most in
-      let os = none (countedSince [] es) (omega arith) in
-      let at : (i : ℕ) → i < 4 → lane (b .likelihoods) i ≡ nought =
-      λ i h. ap (λ (s : Sum). s .lane) (had .sums i h ∙ ap (λ (l : List Observation). kahan (valuesOf (adjustedTables post) i l)) os) in
-      no-lane (b .likelihoods) (at 0 (omega arith)) (at 1 (omega arith)) (at 2 (omega arith)) (at 3 (omega arith)) (b .«tie_rule»)
-
 -- what agrees with the long calculation leads to its base
 or-same : (r : Reply) (c full : Call) → Agrees r full → c .base ≡ full .base → repliedOr r c .base ≡ full .base
 or-same (Replied short) c full a e = a
 or-same Deferred c full a e = e
 
-call-base : (pre post : ℕ) (rule : TieRule) (es : List Event) → callOf (gapTables pre) (after pre post rule es) .base ≡ baseOf (ruled (after pre post rule es))
-unfolding callOf longWay
-call-base pre post rule es =
-    let b = after pre post rule es in
-    let full = callFullOf b in
-    choice (λ (c : Call). c .base ≡ baseOf (ruled b)) (eqb (contributionsOf b) 0) noCall _
-    (λ h. ap baseOf (sym (nothing-counted pre post rule es (eqb-true (contributionsOf b) 0 h))))
-    (λ _.
-    or-same (unanimousOf (gapTables pre) b) (repliedOr (multibaseOf b) full) full (unanimous-agrees pre post rule es)
-    (or-same (multibaseOf b) full full (multibase-agrees b) refl)
-    ∙ full-base b)
+-- of a builder that holds what its observations leave
+module _ (t : AdjustedProbabilityTables) (os : List Observation) (b : ConsensusBaseBuilder) (had : Holds t os b) where
+  in-all : total (b .observations) ≡ length os
+  unfolding total
+  in-all = rw (had .counts 0 (omega arith), had .counts 1 (omega arith), had .counts 2 (omega arith), had .counts 3 (omega arith)) (had .all)
+
+  nothing-counted : contributionsOf b ≡ 0 → ruled b ≡ noLane
+  unfolding contributionsOf valuesOf kahan
+  nothing-counted e =
+      let n = in-all in
+      let most = had .most in
+      let nil = none os (omega arith) in
+      let at : (i : ℕ) → i < 4 → lane (b .likelihoods) i ≡ nought =
+      λ i h. ap (λ (s : Sum). s .lane) (had .sums i h ∙ ap (λ (l : List Observation). kahan (valuesOf t i l)) nil) in
+      no-lane (b .likelihoods) (at 0 (omega arith)) (at 1 (omega arith)) (at 2 (omega arith)) (at 3 (omega arith)) (b .«tie_rule»)
+
+  -- the base of its call is that of the rule's lane
+  pub held-base : (pre : ℕ) → callOf (gapTables pre) b .base ≡ baseOf (ruled b)
+  unfolding callOf longWay
+  held-base pre =
+      let full = callFullOf b in
+      choice (λ (c : Call). c .base ≡ baseOf (ruled b)) (eqb (contributionsOf b) 0) noCall _
+      (λ h. ap baseOf (sym (nothing-counted (eqb-true (contributionsOf b) 0 h))))
+      (λ _.
+      or-same (unanimousOf (gapTables pre) b) (repliedOr (multibaseOf b) full) full (unanimous-agrees t os b had pre)
+      (or-same (multibaseOf b) full full (multibase-agrees b) refl)
+      ∙ full-base b)
 
 pub laws : (pre post : ℕ) (rule : TieRule) (es : List Event) → Laws pre post rule es
 laws pre post rule es =
+    let t = adjustedTables post in
+    let os = countedSince [] es in
+    let b = after pre post rule es in
     let had = after-holds pre post rule es in
     record {
       own-values = had .sums;
       count = had .counts;
-      most = rw (in-all pre post rule es) (had .most);
-      call-base = call-base pre post rule es;
-      nothing-counted = nothing-counted pre post rule es;
+      most = rw (in-all t os b had) (had .most);
+      call-base = held-base t os b had pre;
+      nothing-counted = nothing-counted t os b had;
     }

@@ -9,6 +9,7 @@ pub mod Demand1
 pub mod SameBase
 pub mod Demand3
 pub mod Laws
+pub mod AfterReset
 pub mod Starred
 pub mod Corners
 pub mod Refusals

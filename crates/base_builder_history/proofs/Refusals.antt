@@ -9,7 +9,7 @@ use lib.Ieee.{Float}
 use Rattle.float.specs.Ops.{if_then_else_}
 use Rattle.tie_rules.specs.Lanes.{noLane, laneOfByte}
 use Rattle.base_builder.specs.declared.builder.ConsensusBaseBuilder.{ConsensusBaseBuilder}
-use Rattle.base_builder.specs.Builder.{isFull, added, refusalOf}
+use Rattle.base_builder.specs.Builder.{isFull, addedBy, added, refusalOf}
 
 -- the number where a base meets a full builder, and elsewhere
 abbrev refusal : Bool → ℕ
@@ -28,7 +28,7 @@ refused-where base b = go (not (eqb (laneOfByte base) noLane) && isFull b)
 
 -- and then the builder is the same
 pub refused-unchanged : (correct error : List Float) (base q : ℕ) (b : ConsensusBaseBuilder) → refusalOf base b ≡ 11 → added correct error base q b ≡ b
-unfolding refusalOf added
+unfolding refusalOf added addedBy
 refused-unchanged correct error base q b = go (eqb (laneOfByte base) noLane) (isFull b) _
   where
     go : (n f : Bool) (b' : ConsensusBaseBuilder) → refusal (not n && f) ≡ 11 → (if n || f then b else b') ≡ b

@@ -20,7 +20,7 @@ use Rattle.tie_rules.specs.Lanes.{lane, noLane, laneOfByte, counted}
 use Rattle.tie_rules.proofs.Lanes.{lanes-at}
 use Rattle.base_builder.specs.declared.builder.ConsensusBaseBuilder.{ConsensusBaseBuilder}
 use Rattle.base_builder.specs.Observation.{countOf}
-use Rattle.base_builder.specs.Builder.{total, cleared, newAt, withRule, resetOf, sumOf, movedLane, observed, entryOf, isFull, added}
+use Rattle.base_builder.specs.Builder.{total, cleared, newAt, withRule, resetOf, sumOf, movedLane, observed, entryOf, isFull, addedBy, added}
 use Rattle.base_builder_history.specs.History.{Event, add, reset, setTieRule, step, run, after}
 use Rattle.base_builder_history.specs.Counted.{Observation, countedSince, valuesOf, kahan, timesOf}
 
@@ -116,7 +116,7 @@ module _ (t : AdjustedProbabilityTables) where
       → Holds t
       (if eqb (laneOfByte base) noLane || leb 4294967295 (length os) then os else record { at = laneOfByte base; quality = q } ∷ os)
       (added (t .correct) (t .«error_per_alt») base q b)
-  unfolding added
+  unfolding added addedBy
   added-holds base q os b had =
       rw (full-is t os b had)
       (together t (eqb (laneOfByte base) noLane || leb 4294967295 (length os)) os _ b _ had
@@ -132,6 +132,11 @@ module _ (t : AdjustedProbabilityTables) where
   run-holds (add base q ∷ es) os b had = run-holds es _ (added (t .correct) (t .«error_per_alt») base q b) (added-holds base q os b had)
   run-holds (reset ∷ es) os b had = run-holds es [] (resetOf b) (cleared-holds t (b .«tie_rule») (b .«ln_error_pre_umi»))
   run-holds (setTieRule rule ∷ es) os b had = run-holds es os (withRule rule b) (record { sums = had .sums; counts = had .counts; all = had .all; most = had .most })
+
+-- after any list, from any builder at all that was reset
+pub reset-holds : (t : AdjustedProbabilityTables) (es : List Event) (b : ConsensusBaseBuilder) → Holds t (countedSince [] es) (run t (reset ∷ es) b)
+unfolding run step resetOf
+reset-holds t es b = run-holds t es [] (resetOf b) (cleared-holds t (b .«tie_rule») (b .«ln_error_pre_umi»))
 
 -- after any list, from a new builder at any two rates under either rule
 pub after-holds : (pre post : ℕ) (rule : TieRule) (es : List Event) → Holds (adjustedTables post) (countedSince [] es) (after pre post rule es)

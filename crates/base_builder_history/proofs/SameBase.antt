@@ -1,4 +1,4 @@
--- After any list of events from a new builder: where a shortcut replies, the rule names its lane, which the long calculation calls. Assumes nothing.
+-- On a builder that holds what its observations leave: where a shortcut replies, the rule names its lane, which the long calculation calls. Assumes nothing.
 use mathlib.Core.Path.{_≡_, refl, sym, ap, _∙_}
 use mathlib.Core.Bool.{Bool, true, false, _||_}
 use mathlib.Core.Logic.{_≢_}
@@ -11,8 +11,8 @@ use lib.Ieee.Scale.{finite}
 use borrow.Author.Tests.{ltb-true, eqb-true}
 use Rattle.float.specs.Ops.{_⊖_, bits, if_then_else_}
 use Rattle.float.proofs.Cases.{both, clash}
+use Rattle.rate_tables.specs.declared.adjusted.AdjustedProbabilityTables.{AdjustedProbabilityTables}
 use Rattle.rate_tables.specs.Gaps.{gapTables}
-use Rattle.tie_rules.specs.declared.tie_rule.TieRule.{TieRule}
 use Rattle.tie_rules.proofs.Lanes.{below-at}
 use Rattle.tie_rules.specs.Lanes.{lane, noLane, baseOf, allBelow, counted}
 use Rattle.tie_rules.specs.Ties.{untied}
@@ -21,9 +21,10 @@ use Rattle.lane_calls.specs.declared.call.Reply.the-variants.{Replied, Deferred
 use Rattle.lane_calls.specs.Unanimous.{firstSeen, soleLane, leads}
 use Rattle.base_builder.specs.declared.builder.ConsensusBaseBuilder.{ConsensusBaseBuilder}
 use Rattle.base_builder.specs.Calls.{unanimousOf, multibaseOf, callFullOf}
-use Rattle.base_builder_history.specs.History.{Event, after}
+use Rattle.base_builder_history.specs.Counted.{Observation}
 use Rattle.base_builder_history.specs.Demand3.{Agrees}
 use Rattle.base_builder_history.specs.Laws.{ruled}
+use Rattle.base_builder_history.proofs.Run.{Holds}
 use Rattle.base_builder_history.proofs.Lanes.{alike}
 use Rattle.base_builder_history.proofs.Gap.{gap-lt}
 use Rattle.base_builder_history.proofs.Named.{other, named}
@@ -44,10 +45,7 @@ sole-others ns =
     go true i f h = f refl
     go false i f h = clash refl h
 
-module _ (pre post : ℕ) (rule : TieRule) (es : List Event) where
-  abbrev b : ConsensusBaseBuilder
-  b = after pre post rule es
-
+module _ (t : AdjustedProbabilityTables) (os : List Observation) (b : ConsensusBaseBuilder) (had : Holds t os b) where
   abbrev i : ℕ
   i = soleLane (b .observations)
 
@@ -66,15 +64,15 @@ module _ (pre post : ℕ) (rule : TieRule) (es : List Event) where
       let unseen = sole-others (b .observations) (h1 .0) in
       named xs i inside (h3 .0)
       (λ (j : ℕ) (k : j < 4) (d : j ≢ i).
-      rw (alike pre post rule es j next k (omega arith) (unseen j k d) (unseen next (omega arith) (omega arith))) (gap-lt winner (lane xs next) gap))
+      rw (alike t os b had j next k (omega arith) (unseen j k d) (unseen next (omega arith) (omega arith))) (gap-lt winner (lane xs next) gap))
       (b .«tie_rule») (h3 .1)
 
   agrees : (k : ℕ) (r : Reply) → ruled b ≡ k → Names k r → Agrees r (callFullOf b)
   agrees k (Replied c) e n = n .0 ∙ sym (full-base b ∙ ap baseOf e)
   agrees k Deferred e n = tt
 
-  pub unanimous-agrees : Agrees (unanimousOf (gapTables pre) b) (callFullOf b)
-  unanimous-agrees = unanimous-by pre b (λ (r : Reply). Agrees r (callFullOf b)) (λ r h n. agrees i r (sole-named h) n) tt
+  pub unanimous-agrees : (pre : ℕ) → Agrees (unanimousOf (gapTables pre) b) (callFullOf b)
+  unanimous-agrees pre = unanimous-by pre b (λ (r : Reply). Agrees r (callFullOf b)) (λ r h n. agrees i r (sole-named h) n) tt
 
 -- on any builder at all: both name the rule's lane
 pub multibase-agrees : (b : ConsensusBaseBuilder) → Agrees (multibaseOf b) (callFullOf b)

@@ -14,7 +14,7 @@ use Rattle.tie_rules.specs.declared.tie_rule.TieRule.the-variants.{UlpRelative,
 use Rattle.tie_rules.specs.Lanes.{baseOf, laneOfByte, allBelow, counted}
 use Rattle.tie_rules.specs.Ties.{fgbioTie, nearPatterns, ulpTie, tiesWith, untied, fgbioStep, ulpStep, scan, fgbioUniqueMaxIndex, uniqueMaxIndex, notMinusInfinity, uniqueMaxIndexWith}
 use Rattle.base_builder.specs.declared.builder.ConsensusBaseBuilder.{ConsensusBaseBuilder}
-use Rattle.base_builder.specs.Builder.{newAt, cleared, total, contributionsOf, added}
+use Rattle.base_builder.specs.Builder.{newAt, cleared, total, contributionsOf, addedBy, added}
 use Rattle.base_builder.specs.Calls.{callOf}
 use Rattle.base_builder_history.specs.History.{add, step, run}
 
@@ -67,5 +67,5 @@ claims pre adjusted gaps =
     ∷ []
 
 pub starred : (pre : ℕ) (adjusted : AdjustedProbabilityTables) (gaps : UnanimousGapTables) → T (all (claims pre adjusted gaps))
-unfolding callOf contributionsOf total newAt cleared baseOf run step added laneOfByte lnProbToPhred phredToLnErrorProb lt le eq isNan div mul add' sub neg ofBits ofInt toBits absOf floorOf uniqueMaxIndexWith fgbioUniqueMaxIndex notMinusInfinity uniqueMaxIndex scan fgbioStep ulpStep fgbioTie untied tiesWith ulpTie nearPatterns allBelow
+unfolding callOf contributionsOf total newAt cleared baseOf run step added addedBy laneOfByte lnProbToPhred phredToLnErrorProb lt le eq isNan div mul add' sub neg ofBits ofInt toBits absOf floorOf uniqueMaxIndexWith fgbioUniqueMaxIndex notMinusInfinity uniqueMaxIndex scan fgbioStep ulpStep fgbioTie untied tiesWith ulpTie nearPatterns allBelow
 starred pre adjusted gaps = tt

@@ -1,6 +1,6 @@
 -- What else holds after every list of events. Definitions only.
 use mathlib.Core.Path.{_≡_}
-use mathlib.Core.List.{List, []}
+use mathlib.Core.List.{List, [], _∷_}
 use Prim.Native.Nat.{ℕ, _≤_, _<_}
 use Rattle.rate_tables.specs.Adjusted.{adjustedTables}
 use Rattle.rate_tables.specs.Gaps.{gapTables}
@@ -10,7 +10,7 @@ use Rattle.tie_rules.specs.Ties.{uniqueMaxIndexWith}
 use Rattle.base_builder.specs.declared.builder.ConsensusBaseBuilder.{ConsensusBaseBuilder}
 use Rattle.base_builder.specs.Builder.{total, sumOf, contributionsOf}
 use Rattle.base_builder.specs.Calls.{callOf}
-use Rattle.base_builder_history.specs.History.{Event, after}
+use Rattle.base_builder_history.specs.History.{Event, reset, run, after}
 use Rattle.base_builder_history.specs.Counted.{countedSince, valuesOf, kahan, timesOf}
 
 -- the lane that the builder's rule names
@@ -28,3 +28,7 @@ pub record Laws (pre post : ℕ) (rule : TieRule) (es : List Event) : Type 0 whe
   pub call-base : callOf (gapTables pre) (after pre post rule es) .base ≡ baseOf (ruled (after pre post rule es))
   -- as there is where nothing was counted
   pub nothing-counted : contributionsOf (after pre post rule es) ≡ 0 → ruled (after pre post rule es) ≡ noLane
+
+-- any builder whatever, after a reset and any events: here too the base of the call is that of the rule's lane, with the tables of any pre-UMI rate
+pub record AfterReset (pre post : ℕ) (b : ConsensusBaseBuilder) (es : List Event) : Type 0 where
+  pub call-base : callOf (gapTables pre) (run (adjustedTables post) (reset ∷ es) b) .base ≡ baseOf (ruled (run (adjustedTables post) (reset ∷ es) b))

@@ -4,3 +4,4 @@ mod elementary_functions;
 mod history_functions;
 mod phred_functions;
 mod table_functions;
+mod umi_functions;

@@ -11,7 +11,8 @@ use lib.Seq.{sets, sets-eq}
 use Rattle.rate_tables.specs.Adjusted.{adjustedTables}
 use Rattle.rate_tables.specs.Gaps.{gapTables}
 use Rattle.base_builder.specs.declared.builder.ConsensusBaseBuilder.{ConsensusBaseBuilder}
-use Rattle.history_script.specs.Bytes.{written, replied}
+use Rattle.lent_bytes.specs.Buffer.{written}
+use Rattle.history_script.specs.Bytes.{replied}
 use Rattle.history_script.specs.Script.{items, isScript}
 use Rattle.history_script.specs.Runs.{reports, startOf, scriptBytes}
 
@@ -20,17 +21,9 @@ module _ (bs out : List ℕ) where
   unfolding replied
   fits-replied h = rw (le-leb (length bs) (length out) h)
 
-  pub fits-written : length bs ≤ length out → sets out 0 bs ≡ written bs out
-  unfolding written
-  fits-written h = rw (le-leb (length bs) (length out) h) (sets-eq bs out 0 (omega arith) ∙ ap (λ (i : ℕ). bs ++ drop i out) (zero-add (length bs)))
-
   pub short-replied : length out < length bs → 0 ≡ replied bs out
   unfolding replied
   short-replied h = rw (lt-leb (length bs) (length out) h)
-
-  pub short-written : length out < length bs → out ≡ written bs out
-  unfolding written
-  short-written h = rw (lt-leb (length bs) (length out) h)
 
 -- no bytes at all
 empty-replied : (out : List ℕ) → 0 ≡ replied [] out

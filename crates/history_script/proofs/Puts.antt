@@ -7,14 +7,8 @@ use native.Mathlib.Numerals.{add-one}
 use native.Mathlib.Omega.{arith}
 use lib.ListN.{length, set, length-append}
 use lib.Seq.{sets, length-sets}
+use Rattle.lent_bytes.proofs.Buffer.{sets-append}
 use Rattle.history_script.specs.Bytes.{bytesOf, Put}
-
--- bytes after bytes
-sets-append : (l : List ℕ) (i : ℕ) (a b : List ℕ) → sets (sets l i a) (i + length a) b ≡ sets l i (a ++ b)
-sets-append l i [] b = rw (add-zero i)
-sets-append l i (x ∷ a) b =
-    let e : i + suc (length a) ≡ suc i + length a = omega arith in
-    ap (λ (k : ℕ). sets (sets (set l i x) (suc i) a) k b) e ∙ sets-append (set l i x) (suc i) a b
 
 -- one put, and then another
 pub put-then : {o o1 o2 t u : List ℕ} {a w1 w2 : ℕ} → Put o a t o1 w1 → Put o1 w1 u o2 w2 → Put o a (t ++ u) o2 w2

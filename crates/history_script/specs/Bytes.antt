@@ -1,9 +1,9 @@
 -- Numbers as bytes, and bytes in a lent buffer. Definitions only.
 use Prim.Native.Nat.{ℕ, zero, suc, _+_, _*_, _/_, _%_}
 use mathlib.Core.Path.{_≡_}
-use mathlib.Core.List.{List, [], _∷_, _++_}
+use mathlib.Core.List.{List, [], _∷_}
 use lib.Dec.{leb}
-use lib.ListN.{length, drop}
+use lib.ListN.{length}
 use lib.Seq.{sets}
 use Rattle.float.specs.Ops.{if_then_else_}
 
@@ -22,13 +22,7 @@ pub record Put (out : List ℕ) (at : ℕ) (bs out′ : List ℕ) (at′ : ℕ) 
   pub place : at′ ≡ at + length bs
   pub bytes : out′ ≡ sets out at bs
 
--- what a buffer holds afterwards: the bytes and then what was there, or, where it is too short, what it held
-unfoldable pub written : List ℕ → List ℕ → List ℕ
-written bs out =
-    if leb (length bs) (length out) then bs ++ drop (length bs) out
-    else out
-
--- how many bytes were written
+-- how many bytes were written: all, or none where the buffer is too short
 unfoldable pub replied : List ℕ → List ℕ → ℕ
 replied bs out =
     if leb (length bs) (length out) then length bs

@@ -7,6 +7,7 @@ mod script;
 mod state;
 mod timing;
 
+pub use report::builder_bytes;
 pub use runs::history;
 pub use state::from_state;
 pub use timing::times;

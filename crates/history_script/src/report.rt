@@ -1,4 +1,5 @@
 // A report: 91 bytes on a builder.
+ghost use mathlib.Core.Path.{_≡_};
 ghost use Prim.Native.Nat.{_+_, _≤_};
 ghost use mathlib.Core.List.{[]};
 ghost use lib.Dec.{ltb};
@@ -46,6 +47,15 @@ fn put_builder(out: &mut [u8], at: usize, builder: ConsensusBaseBuilder) -> usiz
     let a = put_patterns(out, at, likelihoods);
     let b = put_patterns(out, a, compensations);
     put_counts(out, b, observations)
+}
+
+// A builder in 80 bytes.
+pub fn builder_bytes(builder: ConsensusBaseBuilder) -> [u8; 80]
+    ensures { λ r. ⌜ r ≡ builderBytes builder ⌝ }
+{
+    let mut bytes = [0u8; 80];
+    put_builder(&mut bytes, 0, builder);
+    bytes
 }
 
 fn put_call(out: &mut [u8], at: usize, call: Call) -> usize

@@ -1,5 +1,8 @@
 // What an observation adds to a lane's logarithm at each quality, for a post-UMI rate.
 ghost use mathlib.Core.Path.{_≡_};
+ghost use Prim.Native.Nat.{min};
+ghost use lib.ListN.{getD};
+ghost use lib.Ieee.{nan};
 ghost use Rattle.rate_tables.specs.Tables.{levels};
 ghost use Rattle.rate_tables.specs.Adjusted.{adjustedError, correctAt, errorPerAltAt, adjustedTables};
 use phred::LogProbability;
@@ -10,6 +13,12 @@ pub struct AdjustedProbabilityTables {
     pub correct: [f64; 94],
     // The logarithm of an error to one given base.
     pub error_per_alt: [f64; 94],
+}
+
+// The entries of one quality.
+pub struct AdjustedEntry {
+    pub correct: f64,
+    pub error_per_alt: f64,
 }
 
 impl AdjustedProbabilityTables {
@@ -24,6 +33,30 @@ impl AdjustedProbabilityTables {
             error_per_alt,
         }
     }
+}
+
+// The entries of one quality alone, with no table built. Qualities above 93 use entry 93.
+pub fn adjusted_entry(error_rate_post_umi: PhredScore, qual: PhredScore) -> AdjustedEntry
+    ensures correct { λ r. ⌜ r .correct ≡ getD (adjustedTables («error_rate_post_umi» .0) .correct) (min (qual .0) 93) nan ⌝ }
+    ensures error { λ r. ⌜ r .«error_per_alt» ≡ getD (adjustedTables («error_rate_post_umi» .0) .«error_per_alt») (min (qual .0) 93) nan ⌝ }
+{
+    let post = error_rate_post_umi.0;
+    let q = entry_quality(qual.0);
+    let correct = correct_at(post, q);
+    let error_per_alt = error_per_alt_at(post, q);
+    AdjustedEntry {
+        correct,
+        error_per_alt,
+    }
+}
+
+fn entry_quality(q: u8) -> u8
+    ensures { λ r. ⌜ r ≡ min q 93 ⌝ }
+{
+    if 93 < q {
+        return 93;
+    }
+    q
 }
 
 fn correct_table(post: u8) -> [f64; 94]

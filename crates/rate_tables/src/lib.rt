@@ -4,7 +4,9 @@ mod adjusted;
 mod gaps;
 mod thresholds;
 
+pub use adjusted::AdjustedEntry;
 pub use adjusted::AdjustedProbabilityTables;
+pub use adjusted::adjusted_entry;
 pub use gaps::UnanimousGapTables;
 pub use gaps::build_unanimous_gap_tables;
 pub use gaps::build_unanimous_gap_thresholds;

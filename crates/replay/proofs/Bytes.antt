@@ -1,4 +1,4 @@
--- Bytes in digits, two for each, and two lists of bytes, read one by one. Assumes nothing.
+-- Bytes in digits, two for each, read one by one. Assumes nothing.
 use Prim.Native.Nat.{ℕ, suc, _+_, _≤_, _<_}
 use mathlib.Core.Path.{_≡_, refl, ap}
 use mathlib.Core.Bool.{true, false}
@@ -11,7 +11,7 @@ use lib.Seq.{drop-cons, append-snoc, take-suc-set}
 use borrow.Author.Tests.{ltb-true, eqb-true, lt-ltb, le-ltb, eq-eqb, ne-eqb}
 use Rattle.float.proofs.Cases.{both, clash, and-false}
 use Rattle.replay.specs.Hex.{digitOf}
-use Rattle.replay.specs.Builders.{areDigits, byteOf, bytesOf, sameBytes}
+use Rattle.replay.specs.Builders.{areDigits, byteOf, bytesOf}
 
 module _ (bytes : List ℕ) (i : ℕ) where
   -- a digit: the others decide
@@ -60,37 +60,3 @@ two-digits bytes i h t =
 -- the next byte joins those that are read
 pub next-byte : (out digits : List ℕ) (i j b : ℕ) → i < length out → j + 1 < length digits → b ≡ byteOf (getD digits j 0) (getD digits (j + 1) 0) → take (i + 1) (set out i b) ++ bytesOf (drop (j + 2) digits) ≡ take i out ++ bytesOf (drop j digits)
 next-byte out digits i j b h k e = rw (add-one, take-suc-set out i b h, bytes-go-on digits j k, e) (append-snoc (take i out) _ _)
-
-module _ (a b : List ℕ) (i : ℕ) where
-  -- two bytes that are the same: the others decide
-  pub same-go-on : i < length a → i < length b → getD a i 0 ≡ getD b i 0 → sameBytes (drop i a) (drop i b) ≡ sameBytes (drop (i + 1) a) (drop (i + 1) b)
-  unfolding sameBytes
-  same-go-on h k e = rw (add-one, drop-cons a i 0, drop-cons b i 0, eq-eqb (getD a i 0) (getD b i 0))
-
-  -- two others
-  pub same-stop : i < length a → i < length b → (getD a i 0 ≡ getD b i 0 → ⊥) → sameBytes (drop i a) (drop i b) ≡ false
-  unfolding sameBytes
-  same-stop h k n = rw (drop-cons a i 0, drop-cons b i 0, ne-eqb (getD a i 0) (getD b i 0))
-
-  -- no byte is left
-  pub same-end : length a ≤ i → length b ≤ i → sameBytes (drop i a) (drop i b) ≡ true
-  unfolding sameBytes
-  same-end h k = rw (drop-of-length-le a h, drop-of-length-le b k)
-
--- lists of two lengths
-pub same-lengths : (a b : List ℕ) → (length a ≡ length b → ⊥) → sameBytes a b ≡ false
-unfolding sameBytes
-same-lengths [] [] n = absurd (n refl)
-same-lengths [] (y ∷ ys) n = refl
-same-lengths (x ∷ xs) [] n = refl
-same-lengths (x ∷ xs) (y ∷ ys) n = rw (same-lengths xs ys (λ e. n (ap suc e))) (and-false (eqb x y))
-
--- lists of the same bytes are equal
-pub same-equal : (a b : List ℕ) → sameBytes a b ≡ true → a ≡ b
-unfolding sameBytes
-same-equal [] [] t = refl
-same-equal [] (y ∷ ys) t = clash refl t
-same-equal (x ∷ xs) [] t = clash refl t
-same-equal (x ∷ xs) (y ∷ ys) t =
-    let d = both (eqb x y) (sameBytes xs ys) t in
-    rw (eqb-true x y (d .0), same-equal xs ys (d .1))

@@ -14,7 +14,7 @@ use Rattle.replay.specs.declared.hex.Written.the-variants.{Number, NoNum
 use Rattle.replay.specs.declared.lines.Verdict.the-variants.{End, Equal, Differs, NotAnAnswer}
 use Rattle.replay.specs.Functions.{kindOf}
 use Rattle.replay.specs.Hex.{digitOf, hexFrom, hexOf}
-use Rattle.replay.specs.Builders.{areDigits, bytesOf, sameBytes, isField, isBuilderLine, besideScript, builderLine}
+use Rattle.replay.specs.Builders.{areDigits, bytesOf, isField, isBuilderLine, besideScript, builderLine}
 use Rattle.replay.specs.Lines.{fieldOf, fieldsFrom, numbersOf, verdictOf}
 
 -- what follows the letter: a space and 16 digits for each number, as io writes them, and a newline
@@ -83,5 +83,4 @@ no-rule = refl
 
 -- 91 bytes that are the report's, 91 others, and too few
 pub of-reports : (besideScript 98 (replicate 91 7) (replicate 91 7) ≡ Equal 98) × (besideScript 98 (replicate 91 7) (replicate 90 7 ++ (8 ∷ [])) ≡ Differs 98) × (besideScript 98 (replicate 90 7) (replicate 91 7) ≡ NotAnAnswer)
-unfolding sameBytes
 of-reports = (refl, refl, refl)

@@ -9,9 +9,11 @@ use lib.ListN.{length, drop-of-length-le}
 use borrow.Author.Tests.{leb-false, eq-eqb, ne-eqb}
 use Rattle.float.specs.Ops.{if_then_else_}
 use Rattle.float.proofs.Cases.{test}
-use Rattle.history_script.specs.Bytes.{written, replied}
+use Rattle.lent_bytes.specs.Buffer.{written}
+use Rattle.history_script.specs.Bytes.{replied}
 use Rattle.replay.specs.declared.lines.Verdict.the-variants.{Equal, Differs, NotAnAnswer}
-use Rattle.replay.specs.Builders.{sameBytes, besideScript}
+use Rattle.lent_bytes.specs.Lists.{sameBytes}
+use Rattle.replay.specs.Builders.{besideScript}
 
 module _ (bs out : List ℕ) (h : length out ≡ 91) where
   -- 91 bytes were written: they are what the buffer holds

@@ -4,6 +4,7 @@ use mathlib.Core.Bool.{Bool, true, false, _&&_}
 use mathlib.Core.List.{List, [], _∷_}
 use lib.Dec.{ltb, eqb}
 use lib.ListN.{length, take, drop, getD}
+use Rattle.lent_bytes.specs.Lists.{sameBytes}
 use Rattle.float.specs.Ops.{if_then_else_}
 use Rattle.history_script.specs.State.{builderScriptBytes}
 use Rattle.replay.specs.declared.lines.Verdict.{Verdict}
@@ -24,13 +25,6 @@ unfoldable pub bytesOf : List ℕ → List ℕ
 bytesOf [] = []
 bytesOf (high ∷ []) = []
 bytesOf (high ∷ low ∷ digits) = byteOf high low ∷ bytesOf digits
-
--- two lists are the same bytes
-unfoldable pub sameBytes : List ℕ → List ℕ → Bool
-sameBytes [] [] = true
-sameBytes [] (b ∷ ys) = false
-sameBytes (a ∷ xs) [] = false
-sameBytes (a ∷ xs) (b ∷ ys) = eqb a b && sameBytes xs ys
 
 -- a field: a space, then digits
 unfoldable pub isField : List ℕ → Bool

@@ -4,9 +4,10 @@ ghost use mathlib.Core.Bool.{true};
 ghost use Prim.Native.Nat.{_+_, _*_, _<_};
 ghost use lib.ListN.{length};
 ghost use Rattle.replay.specs.Hex.{digitOf};
-ghost use Rattle.replay.specs.Builders.{areDigits, byteOf, sameBytes, isField, fieldBytes, isBuilderLine, oursOf, besideScript, builderLine};
+ghost use Rattle.replay.specs.Builders.{areDigits, byteOf, isField, fieldBytes, isBuilderLine, oursOf, besideScript, builderLine};
 use crate::hex;
 use crate::lines::Verdict;
+use lent_bytes::same_bytes;
 use phred::PhredScore;
 
 // How many bytes a report has.
@@ -111,20 +112,4 @@ fn beside(letter: u8, rates: [u8; 3], state: &[u8], script: &[u8], report: &[u8]
         return Verdict::Equal(letter);
     }
     Verdict::Differs(letter)
-}
-
-fn same_bytes(a: &[u8], b: &[u8]) -> bool
-    ensures { λ r. ⌜ r ≡ sameBytes (now (a .entry)) (now (b .entry)) ⌝ }
-{
-    if a.len() != b.len() {
-        return false;
-    }
-    let mut same = 0;
-    while same < a.len() {
-        if a[same] != b[same] {
-            return false;
-        }
-        same += 1;
-    }
-    true
 }

@@ -1,6 +1,7 @@
 //! Times, ours beside the Rust's in one process.
 
 mod columns;
+mod umis;
 
 use std::hint::black_box;
 use std::time::Instant;
@@ -36,7 +37,7 @@ impl Line {
 
 /// Prints the table, in columns or as markdown, unless both sides' calls differ.
 pub fn run(seed: u64, markdown: bool) -> bool {
-    let of_builder = match columns::lines(seed) {
+    let of_sequences = match of_sequences(seed) {
         Ok(lines) => lines,
         Err(problem) => {
             println!("bench: {problem}");
@@ -48,7 +49,7 @@ pub fn run(seed: u64, markdown: bool) -> bool {
         best.into_iter().zip(round).map(|(a, b)| a.better(b)).collect()
     };
     let mut lines: Vec<Line> = rounds.reduce(better).unwrap_or_default();
-    lines.extend(of_builder);
+    lines.extend(of_sequences);
     println!(
         "functions: best of {} runs over {ARGUMENTS} arguments, {}",
         RUNS * ROUNDS,
@@ -59,13 +60,24 @@ pub fn run(seed: u64, markdown: bool) -> bool {
         columns::ROUNDS,
         columns::EVENTS
     );
+    println!(
+        "UMI sets: best of {} runs, about 1 percent of errors, the defaults; the Rust's strings are made before",
+        umis::ROUNDS
+    );
     println!("ratio: the Rust's time over ours, above 1 where ours is less\n");
     let table = table(&lines);
     print!("{}", if markdown { table.markdown() } else { table.aligned() });
     true
 }
 
-/// Every line, measured once.
+/// The lines of columns and of UMI sets, or what is wrong with an answer.
+fn of_sequences(seed: u64) -> Result<Vec<Line>, String> {
+    let mut lines = columns::lines(seed)?;
+    lines.extend(umis::lines(seed)?);
+    Ok(lines)
+}
+
+/// Every line of a function, measured once.
 fn round(seed: u64) -> Vec<Line> {
     let mut random = Random::new(seed);
     let mut lines = Vec::new();

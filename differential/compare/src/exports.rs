@@ -1,6 +1,7 @@
 //! What the static library `exports` defines.
 
 use crate::builder::Settings;
+use crate::umis::function::Rates;
 
 unsafe extern "C" {
     pub safe fn consensus_exp(x: f64) -> f64;
@@ -50,6 +51,24 @@ unsafe extern "C" {
         script_length: usize,
         times: u32,
     ) -> u64;
+
+    fn consensus_umi(
+        which: u8,
+        set: *const u8,
+        set_length: usize,
+        out: *mut u8,
+        length: usize,
+    ) -> u64;
+    fn consensus_umi_caller(
+        pre: u8,
+        post: u8,
+        quality: u8,
+        which: u8,
+        set: *const u8,
+        set_length: usize,
+        out: *mut u8,
+        length: usize,
+    ) -> u64;
 }
 
 // SAFETY of each call below: a slice is passed as a pointer and how many elements there are behind
@@ -94,4 +113,20 @@ pub fn history_times(settings: Settings, script: &[u8], times: u32) -> u64 {
     let Settings { pre, post, rule } = settings;
     // SAFETY: as above.
     unsafe { consensus_history_times(pre, post, rule, script.as_ptr(), script.len(), times) }
+}
+
+/// `consensus_umi` of a set.
+pub fn umi(which: u8, set: &[u8], out: &mut [u8]) -> u64 {
+    let (set, set_length) = (set.as_ptr(), set.len());
+    // SAFETY: as above.
+    unsafe { consensus_umi(which, set, set_length, out.as_mut_ptr(), out.len()) }
+}
+
+/// `consensus_umi_caller` of a set.
+pub fn umi_caller(rates: Rates, which: u8, set: &[u8], out: &mut [u8]) -> u64 {
+    let Rates { pre, post, quality } = rates;
+    let (set, set_length) = (set.as_ptr(), set.len());
+    let (out, length) = (out.as_mut_ptr(), out.len());
+    // SAFETY: as above.
+    unsafe { consensus_umi_caller(pre, post, quality, which, set, set_length, out, length) }
 }

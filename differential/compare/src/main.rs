@@ -23,6 +23,7 @@ mod random;
 mod recorded;
 mod table;
 mod tables;
+mod umis;
 mod vectors;
 
 const USAGE: &str = "\
@@ -31,16 +32,18 @@ usage: compare elementary [--arguments N] [--seed N]   the four elementary funct
        compare tables                                  the tables of all 256 rates, bit for bit
        compare histories [--histories N] [--seed N]    the builder's whole histories, bit for bit
        compare builders [--builders N] [--seed N]      builders of any state, bit for bit
+       compare umis [--sets N] [--seed N]              the functions of simple_umi.rs, bit for bit
        compare history PRE POST RULE SCRIPT [STATE]    one history again, field by field
        compare vectors FILE [--seed N]                 write the stored list of the Rust's answers
        compare bench [--markdown] [--seed N]           times, the Rust's beside ours
 The seed is also taken from the variable DIFFERENTIAL_SEED.";
 
-/// How many arguments of each range are compared, how many histories, how many builders, and the
-/// seed, where nothing else is asked.
+/// How many arguments of each range are compared, how many histories, how many builders, how many
+/// drawn string sets, and the seed, where nothing else is asked.
 const ARGUMENTS: u64 = 1_000_000;
 const HISTORIES: u64 = 1_000_000;
 const BUILDERS: u64 = 20_000;
+const SETS: u64 = 20_000;
 const SEED: u64 = 1;
 
 /// What is to be done.
@@ -50,6 +53,7 @@ enum Command {
     Tables,
     Histories,
     Builders,
+    Umis,
     History(Again),
     Vectors(PathBuf),
     Bench,
@@ -61,6 +65,7 @@ struct Request {
     arguments: u64,
     histories: u64,
     builders: u64,
+    sets: u64,
     seed: u64,
     markdown: bool,
 }
@@ -71,6 +76,7 @@ impl Request {
         let mut arguments = ARGUMENTS;
         let mut histories = HISTORIES;
         let mut builders = BUILDERS;
+        let mut sets = SETS;
         let mut markdown = false;
         let mut words = Vec::new();
         while let Some(word) = line.next() {
@@ -78,6 +84,7 @@ impl Request {
                 "--arguments" => arguments = number(line.next())?,
                 "--histories" => histories = number(line.next())?,
                 "--builders" => builders = number(line.next())?,
+                "--sets" => sets = number(line.next())?,
                 "--seed" => seed = number(line.next())?,
                 "--markdown" => markdown = true,
                 option if option.starts_with('-') => return Err(format!("no option {option}")),
@@ -85,7 +92,7 @@ impl Request {
             }
         }
         let command = command(&words)?;
-        Ok(Self { command, arguments, histories, builders, seed, markdown })
+        Ok(Self { command, arguments, histories, builders, sets, seed, markdown })
     }
 
     /// Does what is asked, and says whether all is as demanded.
@@ -96,6 +103,7 @@ impl Request {
             Command::Tables => Ok(tables::run()),
             Command::Histories => Ok(histories::run(self.histories, self.seed)),
             Command::Builders => Ok(builders::run(self.builders, self.seed)),
+            Command::Umis => Ok(umis::run(self.sets, self.seed)),
             Command::History(again) => Ok(again.run()),
             Command::Vectors(file) => vectors::write(file, self.seed),
             Command::Bench => Ok(bench::run(self.seed, self.markdown)),
@@ -111,6 +119,7 @@ fn command(words: &[String]) -> Result<Command, String> {
         ["tables"] => Ok(Command::Tables),
         ["histories"] => Ok(Command::Histories),
         ["builders"] => Ok(Command::Builders),
+        ["umis"] => Ok(Command::Umis),
         ["history", ref words @ ..] => Again::read(words).map(Command::History),
         ["vectors", file] => Ok(Command::Vectors(file.into())),
         ["bench"] => Ok(Command::Bench),

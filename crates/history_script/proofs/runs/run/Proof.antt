@@ -10,7 +10,8 @@ use Rattle.rate_tables.specs.Gaps.{gapTables}
 use Rattle.history_script.specs.Script.{items}
 use Rattle.history_script.specs.Runs.{reports, startOf, scriptBytes}
 use Rattle.history_script.proofs.Lengths.{reports-length}
-use Rattle.history_script.proofs.Buffers.{fits-replied, fits-written, short-replied, short-written, none-replied, none-written, bad-rule, bad-script, good}
+use Rattle.lent_bytes.proofs.Buffer.{fits-written, short-written}
+use Rattle.history_script.proofs.Buffers.{fits-replied, short-replied, none-replied, none-written, bad-rule, bad-script, good}
 use borrow.Author.Needs.{needs}
 use Rattle.history_script.proofs.runs.run.Statement.{statement}
 use Rattle.history_script.proofs.runs.run.Tie as tie

@@ -1,0 +1,51 @@
+-- `add_entry`: ignored, refused or counted. Assumes nothing.
+use borrow.Author.Tests.{eq-eqb, ne-eqb, le-leb, lt-leb}
+use Rattle.base_builder.specs.Builder.{isFull, addedBy, answerOf, refusalOf}
+use borrow.Author.Needs.{needs}
+use Rattle.base_builder.proofs.builder.add_entry.Statement.{statement}
+use Rattle.base_builder.proofs.builder.add_entry.Tie as tie
+
+lane-of-requires : tie.Need-lane-of-requires
+lane-of-requires c κs = search needs
+
+returns : tie.Need-returns
+unfolding addedBy answerOf refusalOf
+returns c =
+    let k = c .before .lane-of .ensures in
+    let n = eq-eqb _ _ (c .if1 .taken) in
+    (rw (← k, n), (rw (← k, n), rw (← k, n)))
+
+total-requires : tie.Need-total-requires
+total-requires c κs = search needs
+
+returns-2 : tie.Need-returns-2
+unfolding addedBy answerOf refusalOf isFull
+returns-2 c =
+    let k = c .before .before .before .before .lane-of .ensures in
+    let n = ne-eqb _ _ (c .before .before .before .if1 .left) in
+    let t = c .before .total .ensures in
+    let f = le-leb _ _ (c .if2 .taken) in
+    (rw (← k, n, ← t, f), (rw (← k, n, ← t, f), rw (← k, n, ← t, f)))
+
+observed-requires : tie.Need-observed-requires
+observed-requires c κs = search needs
+
+returns-3 : tie.Need-returns-3
+unfolding addedBy answerOf refusalOf isFull
+returns-3 c =
+    let k = c .before .before .before .before .before .lane-of .ensures in
+    let n = ne-eqb _ _ (c .before .before .before .before .if1 .left) in
+    let t = c .before .before .total .ensures in
+    let f = lt-leb _ _ (c .before .if2 .left) in
+    (rw (← k, n, ← t, f) (c .observed .ensures), (rw (← k, n, ← t, f), rw (← k, n, ← t, f)))
+
+pub add-entry-spec : {M : Type 1} → statement M
+add-entry-spec =
+    tie.close
+    (tie.spec
+    lane-of-requires
+    returns
+    total-requires
+    returns-2
+    observed-requires
+    returns-3)

@@ -1,0 +1,4 @@
+pub mod Lists
+pub mod Buffer
+pub mod Same
+pub mod Tests

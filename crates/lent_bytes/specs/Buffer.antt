@@ -1,0 +1,12 @@
+-- What a lent buffer holds afterwards. Definitions only.
+use Prim.Native.Nat.{ℕ}
+use mathlib.Core.List.{List, _++_}
+use lib.Dec.{leb}
+use lib.ListN.{length, drop}
+use Rattle.float.specs.Ops.{if_then_else_}
+
+-- the bytes and then what was there, or, where it is too short, what it held
+unfoldable pub written : List ℕ → List ℕ → List ℕ
+written bs out =
+    if leb (length bs) (length out) then bs ++ drop (length bs) out
+    else out

@@ -1,0 +1,5 @@
+pub mod RowLoops
+pub mod Rows
+pub mod Groups
+pub mod Replies
+pub mod Strands

@@ -1,0 +1,6 @@
+pub mod Strings
+pub mod Verdicts
+pub mod Consensus
+pub mod Duplex
+pub mod Answers
+pub mod Places

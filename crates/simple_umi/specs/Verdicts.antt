@@ -1,0 +1,42 @@
+-- What is refused in a list of strings. Definitions only.
+use Prim.Native.Nat.{ℕ}
+use mathlib.Core.Bool.{not}
+use mathlib.Core.List.{List, [], _∷_}
+use lib.ListN.{length}
+use Rattle.float.specs.Ops.{if_then_else_}
+use Rattle.lent_bytes.specs.Lists.{any, isEmpty}
+use Rattle.refusals.specs.declared.Refusal.the-variants.{NoStrings, LengthsDiffer, NotAscii}
+use Rattle.refusals.specs.declared.Verdict.{Verdict}
+use Rattle.refusals.specs.declared.Verdict.the-variants.{Sound, Refused}
+use Rattle.refusals.specs.Result.{orElse}
+use Rattle.umi_column.specs.Verdicts.{verdictOf}
+use Rattle.simple_umi.specs.Strings.{firstOf, columnsOf, alike, isFamily, isHigh}
+
+-- the first faulty column decides
+unfoldable pub firstRefusal : List (List ℕ) → Verdict
+firstRefusal [] = Sound
+firstRefusal (c ∷ cs) = orElse (verdictOf c) (firstRefusal cs)
+
+-- of strings of a width: 7 looks at all of them first
+unfoldable pub familyVerdict : ℕ → List (List ℕ) → Verdict
+familyVerdict width strings =
+    if any (any isHigh) strings then Refused NotAscii
+    else firstRefusal (columnsOf width strings)
+
+-- `consensus` refuses a family alone, by 7 to 9
+unfoldable pub consensusVerdict : List (List ℕ) → Verdict
+consensusVerdict strings =
+    if isFamily strings then familyVerdict (length (firstOf strings)) strings
+    else Sound
+
+-- `consensus_umis` also refuses unequal lengths, by 6
+unfoldable pub umisVerdict : List (List ℕ) → Verdict
+umisVerdict strings =
+    if alike strings then consensusVerdict strings
+    else Refused LengthsDiffer
+
+-- and `call_consensus` no strings at all, by 5
+unfoldable pub callVerdict : List (List ℕ) → Verdict
+callVerdict strings =
+    if isEmpty strings then Refused NoStrings
+    else umisVerdict strings

@@ -1,0 +1,146 @@
+-- What is refused of every list of strings, and for want of room. Assumes nothing.
+use mathlib.Core.Path.{_≡_, refl, _∙_}
+use mathlib.Core.Bool.{true, false}
+use mathlib.Core.List.{List, [], _∷_}
+use Prim.Native.Nat.{ℕ, zero, suc, _<_}
+use native.Mathlib.Nat.{le-of-suc-le-suc, not-suc-le-zero}
+use native.Mathlib.Omega.{arith}
+use borrow.Author.Tests.{eq-eqb, lt-ltb, ltb-true}
+use lib.Dec.{ltb}
+use lib.ListN.{length, getD}
+use Rattle.float.proofs.Cases.{both, clash, refuted, and-false}
+use Rattle.lent_bytes.specs.Lists.{any, isEmpty}
+use Rattle.refusals.specs.declared.Refusal.{Refusal}
+use Rattle.refusals.specs.declared.Refusal.the-variants.{NoStrings, LengthsDiffer, NotAscii}
+use Rattle.refusals.specs.declared.Verdict.the-variants.{Sound, Refused}
+use Rattle.rate_tables.proofs.Filled.{listed-length, level-at}
+use Rattle.umi_column.specs.Verdicts.{verdictOf}
+use Rattle.simple_umi.specs.Strings.{firstOf, columnOf, columnsOf, alike, isFamily, isHigh}
+use Rattle.simple_umi.specs.Verdicts.{firstRefusal, familyVerdict, consensusVerdict, umisVerdict, callVerdict}
+use Rattle.simple_umi.specs.Consensus.{Found}
+use Rattle.simple_umi.specs.Answers.{roomFor}
+use Rattle.simple_umi_laws.specs.Laws.{sound, Conditions, Room}
+
+-- ---- columns
+
+columns-length : (width : ℕ) (strings : List (List ℕ)) → length (columnsOf width strings) ≡ width
+unfolding columnsOf
+columns-length width strings = listed-length (columnOf strings) 0 width
+
+columns-at : (width : ℕ) (strings : List (List ℕ)) (k : ℕ) → k < width → getD (columnsOf width strings) k [] ≡ columnOf strings k
+unfolding columnsOf
+columns-at width strings k h = level-at (columnOf strings) [] width k h
+
+first-faulty : (cs : List (List ℕ)) (k : ℕ) (r : Refusal) → k < length cs
+    → ((j : ℕ) → j < k → sound (getD cs j []))
+    → verdictOf (getD cs k []) ≡ Refused r
+    → firstRefusal cs ≡ Refused r
+unfolding firstRefusal
+first-faulty [] k r h f e = absurd (not-suc-le-zero h)
+first-faulty (c ∷ cs) zero r h f e = rw e
+first-faulty (c ∷ cs) (suc k) r h f e = rw (f 0 (omega arith)) (first-faulty cs k r (le-of-suc-le-suc h) (λ j l. f (suc j) (omega arith)) e)
+
+none-faulty : (cs : List (List ℕ)) → ((j : ℕ) → j < length cs → sound (getD cs j [])) → firstRefusal cs ≡ Sound
+unfolding firstRefusal
+none-faulty [] f = refl
+none-faulty (c ∷ cs) f = rw (f 0 (omega arith)) (none-faulty cs (λ j l. f (suc j) (omega arith)))
+
+-- ---- lists of strings by kind
+
+family-alike : (strings : List (List ℕ)) → isFamily strings ≡ true → alike strings ≡ true
+unfolding isFamily
+family-alike strings h = both (ltb 1 (length strings)) (alike strings) h .1
+
+pub unlike-no-family : (strings : List (List ℕ)) → alike strings ≡ false → isFamily strings ≡ false
+unfolding isFamily
+unlike-no-family strings h = rw h (and-false (ltb 1 (length strings)))
+
+-- there are some where lengths differ, and in a family
+pub unlike-some : (strings : List (List ℕ)) → alike strings ≡ false → isEmpty strings ≡ false
+unfolding alike
+unlike-some [] h = clash h refl
+unlike-some (t ∷ ts) h = refl
+
+family-some : (strings : List (List ℕ)) → isFamily strings ≡ true → isEmpty strings ≡ false
+unfolding isFamily
+family-some [] h = clash refl h
+family-some (t ∷ ts) h = refl
+
+pub one-alike : (t : List ℕ) → alike (t ∷ []) ≡ true
+unfolding alike
+one-alike t = rw (eq-eqb (length t) (length t) refl)
+
+pub one-no-family : (t : List ℕ) → isFamily (t ∷ []) ≡ false
+unfolding isFamily
+one-no-family t = refl
+
+-- ---- what is refused
+
+module _ (strings : List (List ℕ)) where
+  pub other-sound : isFamily strings ≡ false → consensusVerdict strings ≡ Sound
+  unfolding consensusVerdict
+  other-sound h = rw h
+
+  pub alike-umis : alike strings ≡ true → umisVerdict strings ≡ consensusVerdict strings
+  unfolding umisVerdict
+  alike-umis h = rw h
+
+  pub unlike-umis : alike strings ≡ false → umisVerdict strings ≡ Refused LengthsDiffer
+  unfolding umisVerdict
+  unlike-umis h = rw h
+
+  pub none-call : isEmpty strings ≡ true → callVerdict strings ≡ Refused NoStrings
+  unfolding callVerdict
+  none-call h = rw h
+
+  pub some-call : isEmpty strings ≡ false → callVerdict strings ≡ umisVerdict strings
+  unfolding callVerdict
+  some-call h = rw h
+
+  high-family : isFamily strings ≡ true → any (any isHigh) strings ≡ true → consensusVerdict strings ≡ Refused NotAscii
+  unfolding consensusVerdict familyVerdict
+  high-family h k = rw (h, k)
+
+  low-family : isFamily strings ≡ true → any (any isHigh) strings ≡ false → consensusVerdict strings ≡ firstRefusal (columnsOf (length (firstOf strings)) strings)
+  unfolding consensusVerdict familyVerdict
+  low-family h k = rw (h, k)
+
+pub none-verdicts : (callVerdict [] ≡ Refused NoStrings) × (umisVerdict [] ≡ Sound) × (consensusVerdict [] ≡ Sound)
+unfolding callVerdict umisVerdict consensusVerdict isFamily alike
+none-verdicts = (refl, refl, refl)
+
+pub one-umis : (t : List ℕ) → umisVerdict (t ∷ []) ≡ Sound
+one-umis t = alike-umis (t ∷ []) (one-alike t) ∙ other-sound (t ∷ []) (one-no-family t)
+
+pub one-call : (t : List ℕ) → callVerdict (t ∷ []) ≡ Sound
+one-call t = some-call (t ∷ []) refl ∙ one-umis t
+
+pub conditions : (strings : List (List ℕ)) → Conditions strings
+conditions strings = record {
+  none = λ e. rw e none-verdicts;
+  unequal = λ h.
+      (some-call strings (unlike-some strings h) ∙ unlike-umis strings h, unlike-umis strings h, other-sound strings (unlike-no-family strings h));
+  single = λ t e. rw e (one-call t);
+  family = λ h.
+      let a = alike-umis strings (family-alike strings h) in
+      (some-call strings (family-some strings h) ∙ a, a);
+  high = high-family strings;
+  column = λ h n k r l before e.
+      let width = length (firstOf strings) in
+      let columns = columnsOf width strings in
+      low-family strings h n
+      ∙ first-faulty columns k r (rw (columns-length width strings) l)
+      (λ j m. rw (columns-at width strings j (omega arith)) (before j m)) (rw (columns-at width strings k l) e);
+  fine = λ h n f.
+      let width = length (firstOf strings) in
+      low-family strings h n
+      ∙ none-faulty (columnsOf width strings)
+      (λ j m. let l : j < width = rw (columns-length width strings) at m in rw (columns-at width strings j l) (f j l));
+}
+
+pub room : (out : List ℕ) (f : Found) → Room out f
+unfolding roomFor
+room out f =
+    let n = length out in
+    let m = length (f .text) in
+    record { short = λ h. rw (lt-ltb n m h); enough = λ h. rw (refuted (ltb n m) (λ t. h (ltb-true n m t))) }

@@ -1,0 +1,104 @@
+-- The laws of the strings of two strands, and an example, computed. Assumes nothing.
+use mathlib.Core.Path.{_≡_, refl, sym, _∙_, ap}
+use mathlib.Core.Bool.{Bool, true, false}
+use mathlib.Core.List.{List, [], _∷_, _++_, map-append}
+use Prim.Native.Nat.{ℕ, _-_}
+use native.Mathlib.Omega.{arith}
+use borrow.Author.Tests.{eq-eqb}
+use lib.ListN.{length, take, length-append}
+use lib.Seq.{take-append-seam, drop-append-seam}
+use Rattle.float.proofs.Cases.{test}
+use Rattle.lent_bytes.specs.Lists.{keep, isEmpty}
+use Rattle.refusals.specs.declared.Refusal.{Refusal}
+use Rattle.refusals.specs.Result.{refused, accepted}
+use Rattle.simple_umi.specs.declared.caller.SimpleConsensusCaller.{SimpleConsensusCaller}
+use Rattle.simple_umi.specs.Strings.{alike, isFamily}
+use Rattle.simple_umi.specs.Verdicts.{consensusVerdict}
+use Rattle.simple_umi.specs.Consensus.{Found, withBuilder, firstFound, found, consensusOf}
+use Rattle.simple_umi.specs.Duplex.{endsIn, strandOf, paired, duplexOf}
+use Rattle.simple_umi_laws.specs.DuplexLaws.{Strand, Duplex, pairing}
+use Rattle.simple_umi.proofs.Strands.{strand-kept, strand-left}
+
+-- ---- which strings a strand has
+
+keep-append : {A : Type 0} (p : A → Bool) (xs ys : List A) → keep p (xs ++ ys) ≡ keep p xs ++ keep p ys
+keep-append p [] ys = refl
+keep-append p (x ∷ xs) ys = test (p x) (λ h. rw (h, keep-append p xs ys)) (λ h. rw (h, keep-append p xs ys))
+
+module _ (letter : ℕ) where
+  strand-append : (ts us : List (List ℕ)) → strandOf letter (ts ++ us) ≡ strandOf letter ts ++ strandOf letter us
+  unfolding strandOf
+  strand-append ts us = rw (keep-append (endsIn letter) ts us) (map-append (λ t. take (length t - 2) t) (keep (endsIn letter) ts) (keep (endsIn letter) us))
+
+  -- a string with the two bytes added
+  module _ (t : List ℕ) where
+    longer : length (t ++ (47 ∷ letter ∷ [])) - 2 ≡ length t
+    longer = rw (length-append t (47 ∷ letter ∷ [])) (omega arith)
+
+    ends : endsIn letter (t ++ (47 ∷ letter ∷ [])) ≡ true
+    unfolding endsIn
+    ends = rw (longer, drop-append-seam t (47 ∷ letter ∷ []), eq-eqb letter letter refl)
+
+    bare : take (length (t ++ (47 ∷ letter ∷ [])) - 2) (t ++ (47 ∷ letter ∷ [])) ≡ t
+    bare = rw longer (take-append-seam t (47 ∷ letter ∷ []))
+
+  pub strand : Strand letter
+  strand = record {
+    dropped = λ ts us t e. strand-append ts (t ∷ us) ∙ rw (strand-left letter t us e) (sym (strand-append ts us));
+    trimmed = λ ts us t.
+        strand-append ts ((t ++ (47 ∷ letter ∷ [])) ∷ us) ∙ rw (strand-kept letter (t ++ (47 ∷ letter ∷ [])) us (ends t), bare t);
+  }
+
+-- ---- what both strands give
+
+-- no strings
+none : (c : SimpleConsensusCaller) → consensusOf c [] ≡ accepted (record { text = []; hadErrors = false; builder = c .builder })
+unfolding consensusVerdict isFamily found firstFound alike
+none c = refl
+
+-- its own builder
+same-caller : (c : SimpleConsensusCaller) → withBuilder (c .builder) c ≡ c
+unfolding withBuilder
+same-caller c = refl
+
+not-empty : {A : Type 0} (l : List A) → (l ≡ [] → ⊥) → isEmpty l ≡ false
+not-empty [] h = absurd (h refl)
+not-empty (x ∷ l) h = refl
+
+module _ (c : SimpleConsensusCaller) (strings : List (List ℕ)) where
+  a-refused : (r : Refusal) → consensusOf c (strandOf 65 strings) ≡ refused r → duplexOf c strings ≡ refused r
+  unfolding duplexOf
+  a-refused r e = rw e
+
+  module _ (a : Found) (e : consensusOf c (strandOf 65 strings) ≡ accepted a) where
+    b-refused : (r : Refusal) → consensusOf (withBuilder (a .builder) c) (strandOf 66 strings) ≡ refused r → duplexOf c strings ≡ refused r
+    unfolding duplexOf
+    b-refused r h = rw (e, h)
+
+    both : (b : Found) → consensusOf (withBuilder (a .builder) c) (strandOf 66 strings) ≡ accepted b → duplexOf c strings ≡ accepted (paired a b)
+    unfolding duplexOf
+    both b h = rw (e, h)
+
+  a-text : (a b : Found) → (a .text ≡ [] → ⊥) → paired a b ≡ pairing a b (a .text)
+  unfolding paired
+  a-text a b h = rw (not-empty (a .text) h)
+
+  b-text : (a b : Found) → a .text ≡ [] → paired a b ≡ pairing a b (b .text)
+  unfolding paired
+  b-text a b h = rw h
+
+  no-a : strandOf 65 strings ≡ [] → (b : Found) → consensusOf c (strandOf 66 strings) ≡ accepted b
+      → duplexOf c strings ≡ accepted (record { found = record { text = b .text; hadErrors = false; builder = b .builder }; hadErrorsB = b .hadErrors })
+  no-a h b e =
+      let a : Found = record { text = []; hadErrors = false; builder = c .builder } in
+      both a (rw h (none c)) b (rw (same-caller c) e) ∙ ap accepted (b-text a b refl)
+
+  pub duplex : Duplex c strings
+  duplex = record {
+    a-refused = a-refused;
+    b-refused = b-refused;
+    a-string = λ a e b k h. both a e b k ∙ ap accepted (a-text a b h);
+    b-string = λ a e b k h. both a e b k ∙ ap accepted (b-text a b h);
+    no-a = no-a;
+    neither = λ h k. no-a h (record { text = []; hadErrors = false; builder = c .builder }) (rw k (none c));
+  }

@@ -1,0 +1,42 @@
+-- What holds of the strings of two strands. Definitions only.
+use mathlib.Core.Path.{_≡_}
+use mathlib.Core.Bool.{false}
+use mathlib.Core.List.{List, [], _∷_, _++_}
+use Prim.Native.Nat.{ℕ}
+use Rattle.refusals.specs.declared.Refusal.{Refusal}
+use Rattle.refusals.specs.Result.{refused, accepted}
+use Rattle.simple_umi.specs.declared.caller.SimpleConsensusCaller.{SimpleConsensusCaller}
+use Rattle.simple_umi.specs.Consensus.{Found, withBuilder, consensusOf}
+use Rattle.simple_umi.specs.Duplex.{FoundDuplex, endsIn, strandOf, duplexOf}
+
+-- which strings a strand has
+pub record Strand (letter : ℕ) : Type 0 where
+  -- one that does not end in / and the letter is dropped, wherever it stands
+  pub dropped : (ts us : List (List ℕ)) (t : List ℕ) → endsIn letter t ≡ false → strandOf letter (ts ++ (t ∷ us)) ≡ strandOf letter (ts ++ us)
+  -- one that does is there without these two bytes
+  pub trimmed : (ts us : List (List ℕ)) (t : List ℕ) → strandOf letter (ts ++ ((t ++ (47 ∷ letter ∷ [])) ∷ us)) ≡ strandOf letter ts ++ (t ∷ strandOf letter us)
+
+-- what both strands give
+abbrev pub pairing : Found → Found → List ℕ → FoundDuplex
+pairing a b text = record { found = record { text = text; hadErrors = a .hadErrors; builder = b .builder }; hadErrorsB = b .hadErrors }
+
+pub record Duplex (c : SimpleConsensusCaller) (strings : List (List ℕ)) : Type 0 where
+  -- /A is treated as `consensus` treats a set, and its refusal comes first
+  pub a-refused : (r : Refusal) → consensusOf c (strandOf 65 strings) ≡ refused r → duplexOf c strings ≡ refused r
+  -- then /B is, by the caller as /A leaves it, and its refusal counts whatever /A's string is
+  pub b-refused : (a : Found) → consensusOf c (strandOf 65 strings) ≡ accepted a
+      → (r : Refusal) → consensusOf (withBuilder (a .builder) c) (strandOf 66 strings) ≡ refused r → duplexOf c strings ≡ refused r
+  -- where neither is refused: /A's string
+  pub a-string : (a : Found) → consensusOf c (strandOf 65 strings) ≡ accepted a
+      → (b : Found) → consensusOf (withBuilder (a .builder) c) (strandOf 66 strings) ≡ accepted b
+      → (a .text ≡ [] → ⊥) → duplexOf c strings ≡ accepted (pairing a b (a .text))
+  -- or, where that is empty, /B's, with the flag of each
+  pub b-string : (a : Found) → consensusOf c (strandOf 65 strings) ≡ accepted a
+      → (b : Found) → consensusOf (withBuilder (a .builder) c) (strandOf 66 strings) ≡ accepted b
+      → a .text ≡ [] → duplexOf c strings ≡ accepted (pairing a b (b .text))
+  -- as it is where no string ends in /A
+  pub no-a : strandOf 65 strings ≡ [] → (b : Found) → consensusOf c (strandOf 66 strings) ≡ accepted b
+      → duplexOf c strings ≡ accepted (record { found = record { text = b .text; hadErrors = false; builder = b .builder }; hadErrorsB = b .hadErrors })
+  -- no string of either: an empty answer, no error, and the builder as it was
+  pub neither : strandOf 65 strings ≡ [] → strandOf 66 strings ≡ []
+      → duplexOf c strings ≡ accepted (record { found = record { text = []; hadErrors = false; builder = c .builder }; hadErrorsB = false })

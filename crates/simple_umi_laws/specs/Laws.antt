@@ -1,0 +1,91 @@
+-- What holds of every list of strings. Definitions only.
+use mathlib.Core.Path.{_≡_}
+use mathlib.Core.Bool.{Bool, true, false, _||_}
+use mathlib.Core.List.{List, [], _∷_}
+use Prim.Native.Nat.{ℕ, suc, _<_}
+use lib.Dec.{eqb}
+use lib.ListN.{length}
+use Rattle.lent_bytes.specs.Lists.{any, byteAt}
+use Rattle.refusals.specs.declared.Refusal.{Refusal}
+use Rattle.refusals.specs.declared.Refusal.the-variants.{NoStrings, LengthsDiffer, NotAscii, BufferTooShort}
+use Rattle.refusals.specs.declared.Verdict.the-variants.{Sound, Refused}
+use Rattle.refusals.specs.Result.{refused, accepted}
+use Rattle.base_builder_history.specs.Demand1.{isBase}
+use Rattle.umi_column.specs.Dna.{isDnaBase}
+use Rattle.umi_column.specs.Verdicts.{verdictOf}
+use Rattle.simple_umi.specs.declared.caller.SimpleConsensusCaller.{SimpleConsensusCaller}
+use Rattle.simple_umi.specs.Strings.{firstOf, columnOf, alike, isFamily, isHigh, differsFrom}
+use Rattle.simple_umi.specs.Verdicts.{consensusVerdict, umisVerdict, callVerdict}
+use Rattle.simple_umi.specs.Consensus.{Found, defaultCaller, builderAt, found, consensusOf, umisOf, callConsensusOf}
+use Rattle.simple_umi.specs.Answers.{roomFor}
+
+-- ---- what is refused
+
+-- the column is not refused
+abbrev pub sound : List ℕ → Type 0
+sound column = verdictOf column ≡ Sound
+
+pub record Conditions (strings : List (List ℕ)) : Type 0 where
+  -- 5: no strings, which only `call_consensus` refuses
+  pub none : strings ≡ [] → (callVerdict strings ≡ Refused NoStrings) × (umisVerdict strings ≡ Sound) × (consensusVerdict strings ≡ Sound)
+  -- 6: unequal lengths, which `consensus` does not refuse
+  pub unequal : alike strings ≡ false
+      → (callVerdict strings ≡ Refused LengthsDiffer) × (umisVerdict strings ≡ Refused LengthsDiffer) × (consensusVerdict strings ≡ Sound)
+  -- 7 to 9 apply to two or more strings of equal length, and there all three agree
+  pub single : (t : List ℕ) → strings ≡ t ∷ [] → callVerdict strings ≡ Sound
+  pub family : isFamily strings ≡ true → (callVerdict strings ≡ consensusVerdict strings) × (umisVerdict strings ≡ consensusVerdict strings)
+  -- 7: a byte of 128 or more in any of them comes before 8 and 9
+  pub high : isFamily strings ≡ true → any (any isHigh) strings ≡ true → consensusVerdict strings ≡ Refused NotAscii
+  -- 8 and 9: the first faulty column decides
+  pub column : isFamily strings ≡ true
+      → any (any isHigh) strings ≡ false
+      → (k : ℕ) (r : Refusal)
+      → k < length (firstOf strings)
+      → ((j : ℕ) → j < k → sound (columnOf strings j))
+      → verdictOf (columnOf strings k) ≡ Refused r
+      → consensusVerdict strings ≡ Refused r
+  -- and where there is none, the family is accepted
+  pub fine : isFamily strings ≡ true
+      → any (any isHigh) strings ≡ false
+      → ((j : ℕ) → j < length (firstOf strings) → sound (columnOf strings j))
+      → consensusVerdict strings ≡ Sound
+
+-- 10 comes last: a buffer that is shorter than the answer, and no other
+pub record Room (out : List ℕ) (f : Found) : Type 0 where
+  pub short : length out < length (f .text) → roomFor out f ≡ refused BufferTooShort
+  pub enough : (length out < length (f .text) → ⊥) → roomFor out f ≡ accepted f
+
+-- ---- what is answered
+
+-- A, C, G, T or N
+abbrev pub isBaseOrN : ℕ → Bool
+isBaseOrN x = isBase x || eqb x 78
+
+pub record Answered (c : SimpleConsensusCaller) (strings : List (List ℕ)) : Type 0 where
+  -- the answer is as long as the first string, and empty where there is none
+  pub as-long : length (found c strings .text) ≡ length (firstOf strings)
+  -- of a family, each place holds A, C, G, T or N, or the column's own byte where that is no DNA
+  pub letter : isFamily strings ≡ true
+      → (k : ℕ) → k < length (firstOf strings) → isDnaBase (byteAt (firstOf strings) k) ≡ true → isBaseOrN (byteAt (found c strings .text) k) ≡ true
+  pub own-byte : isFamily strings ≡ true
+      → (k : ℕ) → k < length (firstOf strings) → isDnaBase (byteAt (firstOf strings) k) ≡ false → byteAt (found c strings .text) k ≡ byteAt (firstOf strings) k
+  -- the flag says whether a string differs from the answer
+  pub flag : found c strings .hadErrors ≡ any (differsFrom (found c strings .text)) strings
+  -- no strings: an empty answer, no error
+  pub none : strings ≡ [] → consensusOf c strings ≡ accepted (record { text = []; hadErrors = false; builder = c .builder })
+  -- one string comes back unchanged, whatever its bytes, from each of the three
+  pub one : (t : List ℕ) → strings ≡ t ∷ []
+      → let f : Found = record { text = t; hadErrors = false; builder = c .builder } in
+      (consensusOf c strings ≡ accepted f) × (umisOf c strings ≡ accepted f) × (callConsensusOf c strings ≡ accepted f)
+  -- unequal lengths give the first string, and an error
+  pub unequal : alike strings ≡ false → consensusOf c strings ≡ accepted (record { text = firstOf strings; hadErrors = true; builder = c .builder })
+  -- the builder stays as it was but for a family that is not empty, whose last column leaves it
+  pub untouched : isFamily strings ≡ false → found c strings .builder ≡ c .builder
+  pub no-column : isFamily strings ≡ true → length (firstOf strings) ≡ 0 → found c strings .builder ≡ c .builder
+  pub last-column : isFamily strings ≡ true
+      → (k : ℕ) → length (firstOf strings) ≡ suc k → found c strings .builder ≡ builderAt c (columnOf strings k)
+  -- where `call_consensus` accepts, `consensus` gives the same
+  pub agree : (f : Found) → callConsensusOf c strings ≡ accepted f → consensusOf c strings ≡ accepted f
+  -- `consensus_umis` is `call_consensus` at the defaults, but for no strings
+  pub umis : (strings ≡ [] → ⊥) → umisOf defaultCaller strings ≡ callConsensusOf defaultCaller strings
+  pub umis-none : strings ≡ [] → umisOf defaultCaller strings ≡ accepted (record { text = []; hadErrors = false; builder = defaultCaller .builder })

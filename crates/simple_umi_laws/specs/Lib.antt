@@ -1,0 +1,4 @@
+pub mod DuplexLaws
+pub mod DuplexExample
+pub mod Laws
+pub mod Examples

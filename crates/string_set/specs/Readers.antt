@@ -1,0 +1,40 @@
+-- Reading off the front of a list of bytes. No position and no loop stands here. Definitions only.
+use Prim.Native.Nat.{ℕ, zero, suc}
+use mathlib.Core.List.{List, [], _∷_}
+use lib.Dec.{leb}
+use lib.ListN.{length, take, drop}
+use Rattle.float.specs.Ops.{if_then_else_}
+use Rattle.refusals.specs.declared.Refusal.the-variants.{CutOff}
+use Rattle.refusals.specs.Result.{Result, refused, accepted}
+
+-- what is read off the front, and the bytes after it; or the bytes do not reach
+pub data Taken (A : Type 0) : Type 0 where
+  taken : A → List ℕ → Taken A
+  short : Taken A
+
+-- go on with what is left
+abbrev pub next : {A B : Type 0} → Taken A → (A → List ℕ → Taken B) → Taken B
+next (taken a r) f = f a r
+next short f = short
+
+-- a count of one byte
+unfoldable pub byte : List ℕ → Taken ℕ
+byte [] = short
+byte (a ∷ r) = taken a r
+
+-- n bytes
+unfoldable pub front : ℕ → List ℕ → Taken (List ℕ)
+front n r =
+    if leb n (length r) then taken (take n r) (drop n r)
+    else short
+
+-- the same kind of part, n times
+unfoldable pub many : {A : Type 0} → (List ℕ → Taken A) → ℕ → List ℕ → Taken (List A)
+many one zero r = taken [] r
+many one (suc n) r = next (one r) (λ a s. next (many one n s) (λ l t. taken (a ∷ l) t))
+
+-- nothing may be left
+abbrev pub alone : {A : Type 0} → Taken A → Result A
+alone short = refused CutOff
+alone (taken a []) = accepted a
+alone (taken a (x ∷ r)) = refused CutOff

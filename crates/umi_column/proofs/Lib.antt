@@ -1,0 +1,4 @@
+pub mod Added
+pub mod Columns
+pub mod ColumnVerdicts
+pub mod DnaClaims

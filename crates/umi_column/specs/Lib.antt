@@ -1,0 +1,4 @@
+pub mod Dna
+pub mod Verdicts
+pub mod Calls
+pub mod DnaClaims

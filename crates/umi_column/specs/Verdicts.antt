@@ -1,0 +1,26 @@
+-- What is refused in a column. Definitions only.
+use Prim.Native.Nat.{ℕ}
+use mathlib.Core.Bool.{Bool, not, _&&_}
+use mathlib.Core.List.{List}
+use lib.Dec.{eqb}
+use Rattle.float.specs.Ops.{if_then_else_}
+use Rattle.lent_bytes.specs.Lists.{any, byteAt}
+use Rattle.refusals.specs.declared.Refusal.the-variants.{UnlikeFirst, Mixed}
+use Rattle.refusals.specs.declared.Verdict.{Verdict}
+use Rattle.refusals.specs.declared.Verdict.the-variants.{Sound, Refused}
+use Rattle.umi_column.specs.Dna.{isDnaBase}
+
+-- a non-DNA byte unlike the first
+abbrev pub isUnlike : ℕ → ℕ → Bool
+isUnlike first x = not (isDnaBase x) && not (eqb x first)
+
+-- DNA and non-DNA in one column
+unfoldable pub isMixed : List ℕ → Bool
+isMixed column = any isDnaBase column && any (λ x. not (isDnaBase x)) column
+
+-- 8 before 9
+unfoldable pub verdictOf : List ℕ → Verdict
+verdictOf column =
+    if any (isUnlike (byteAt column 0)) column then Refused UnlikeFirst
+    else if isMixed column then Refused Mixed
+    else Sound

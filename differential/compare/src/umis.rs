@@ -1,0 +1,66 @@
+//! UMI sets, ours beside the Rust's: strings, flags, refusals, and the caller's builder afterwards.
+
+mod call;
+mod condition;
+mod damaged;
+mod exhaustive;
+pub mod families;
+pub mod file_form;
+mod found;
+pub mod function;
+mod named;
+mod panics;
+mod rates;
+mod rooms;
+mod row;
+mod rust;
+mod tally;
+
+use self::families::{FULL, KINDS, shape};
+use self::row::Row;
+use crate::environment;
+use crate::random::Random;
+
+/// How many sets of each kind are 255 strings of 255 bytes.
+const FULL_OF_A_KIND: usize = 3;
+
+/// Compares so many drawn sets besides the fixed ones, prints tables, and says whether nothing
+/// differs and every reply occurred.
+pub fn run(sets: u64, seed: u64) -> bool {
+    println!("umis: ours beside the Rust's, seed {seed}, {}", environment::c_library());
+    panics::silence();
+    let mut random = Random::new(seed);
+    let mut rows = vec![named::row(), named::row_of_absent_functions()];
+    rows.extend(exhaustive::rows());
+    rows.extend(drawn(sets, &mut random));
+    rows.push(full(&mut random));
+    rows.push(rates::row(sets, &mut random));
+    rows.push(damaged::row(sets, &mut random));
+    rows.push(rooms::row(sets, &mut random));
+    let holds = tally::print(&rows);
+    println!("umis: {}", if holds { "as demanded" } else { "FAILED" });
+    holds
+}
+
+/// A row of each kind, together so many sets.
+fn drawn(sets: u64, random: &mut Random) -> Vec<Row> {
+    let mut rows: Vec<Row> = KINDS.iter().map(|kind| Row::new(kind.name)).collect();
+    let kinds = rows.len();
+    for turn in 0..sets {
+        let kind = turn as usize % kinds;
+        let shape = shape(random);
+        rows[kind].compare_set(&file_form::written(&(KINDS[kind].draw)(shape, random)));
+    }
+    rows
+}
+
+/// As many and as long strings as there may be.
+fn full(random: &mut Random) -> Row {
+    let mut row = Row::new("255 strings of 255 bytes");
+    for kind in &KINDS {
+        for _ in 0..FULL_OF_A_KIND {
+            row.compare_set(&file_form::written(&(kind.draw)(FULL, random)));
+        }
+    }
+    row
+}

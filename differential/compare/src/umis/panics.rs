@@ -1,0 +1,41 @@
+//! The panics by which the Rust refuses a set.
+
+use std::any::Any;
+use std::panic::{AssertUnwindSafe, catch_unwind, resume_unwind, set_hook, take_hook};
+
+use super::condition::{LENGTHS_DIFFER, MIXED, NO_STRINGS, UNLIKE_FIRST};
+
+/// How each begins, and the number of its condition.
+const MESSAGES: [(&str, u64); 4] = [
+    ("Can't call consensus on an empty set of sequences!", NO_STRINGS),
+    ("Sequences must all have the same length.", LENGTHS_DIFFER),
+    ("Sequences must have character '", UNLIKE_FIRST),
+    ("Sequences contained a mix of DNA and non-DNA characters", MIXED),
+];
+
+/// The answer of a call, or the number of the condition for which it panics. Any other panic goes on.
+pub fn answer<T>(call: impl FnOnce() -> T) -> Result<T, u64> {
+    // what the call changes is made by it, and is lost with it
+    catch_unwind(AssertUnwindSafe(call)).map_err(|payload| match number(&*payload) {
+        Some(number) => number,
+        None => resume_unwind(payload),
+    })
+}
+
+/// Has them go unprinted from now on. Any other panic is printed as before.
+pub fn silence() {
+    let print = take_hook();
+    set_hook(Box::new(move |panic| {
+        if number(panic.payload()).is_none() {
+            print(panic);
+        }
+    }));
+}
+
+fn number(payload: &(dyn Any + Send)) -> Option<u64> {
+    let message = match payload.downcast_ref::<String>() {
+        Some(message) => message.as_str(),
+        None => payload.downcast_ref::<&str>()?,
+    };
+    MESSAGES.iter().find(|(start, _)| message.starts_with(start)).map(|(_, number)| *number)
+}

@@ -1,0 +1,20 @@
+/// Accessors of the comparison: what this file keeps private, handed out as it is.
+pub mod accessors {
+    use super::{ConsensusBaseBuilder, SimpleConsensusCaller, SimpleUmiConsensusCaller};
+
+    /// A wrapper around any caller; the source's own constructor takes the default one.
+    #[must_use]
+    pub fn wrapped(caller: SimpleConsensusCaller) -> SimpleUmiConsensusCaller {
+        SimpleUmiConsensusCaller { caller }
+    }
+
+    #[must_use]
+    pub fn builder(caller: &SimpleConsensusCaller) -> &ConsensusBaseBuilder {
+        &caller.builder
+    }
+
+    #[must_use]
+    pub fn wrapped_builder(caller: &SimpleUmiConsensusCaller) -> &ConsensusBaseBuilder {
+        &caller.caller.builder
+    }
+}
