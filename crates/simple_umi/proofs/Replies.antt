@@ -25,7 +25,8 @@ use Rattle.simple_umi.specs.declared.answers.DuplexAnswer.{DuplexAnswer}
 use Rattle.simple_umi.specs.declared.answers.DuplexAnswer.the-variants as duplex
 use Rattle.simple_umi.specs.declared.caller.SimpleConsensusCaller.{SimpleConsensusCaller}
 use Rattle.simple_umi.specs.Consensus.{Found, withBuilder, defaultCaller, consensusOf, umisOf}
-use Rattle.simple_umi.specs.Answers.{roomFor, callConsensusIn, consensusIn, consensusUmisIn, verdictIn, answerLength, flaggedLength, duplexLength, bufferAfter, callerAfter}
+use Rattle.simple_umi.specs.Duplex.{FoundDuplex}
+use Rattle.simple_umi.specs.Answers.{roomFor, callConsensusIn, consensusIn, consensusUmisIn, verdictIn, answerOf, flaggedOf, duplexAnswerOf, answerNumber, flaggedNumber, duplexNumber, numberIn, answerLength, flaggedLength, duplexLength, bufferAfter, callerAfter}
 use Rattle.simple_umi.proofs.Groups.{call-none, call-some}
 
 -- ---- a text in an array of 255
@@ -67,6 +68,19 @@ module _ (out : List ℕ) (v : Verdict) (f : Found) where
 abbrev pub Ended : {X : Type 0} → (Result Found → X) → SimpleConsensusCaller → List ℕ → X → SimpleConsensusCaller → List ℕ → Result Found → Type 0
 Ended say c out answer caller after t = (answer ≡ say t) × ((caller ≡ callerAfter c t) × (after ≡ bufferAfter out t))
 
+-- an answer's number is that of what was found
+pub numbered : (a : Answer) (t : Result Found) → a ≡ answerOf t → answerNumber a ≡ numberIn t
+numbered a (refused r) e = ap answerNumber e
+numbered a (accepted f) e = ap answerNumber e
+
+pub flagged-numbered : (a : FlaggedAnswer) (t : Result Found) → a ≡ flaggedOf t → flaggedNumber a ≡ numberIn t
+flagged-numbered a (refused r) e = ap flaggedNumber e
+flagged-numbered a (accepted f) e = ap flaggedNumber e
+
+pub duplex-numbered : (a : DuplexAnswer) (t : Result FoundDuplex) → a ≡ duplexAnswerOf t → duplexNumber a ≡ numberIn t
+duplex-numbered a (refused r) e = ap duplexNumber e
+duplex-numbered a (accepted d) e = ap duplexNumber e
+
 -- a refusal gives no string
 pub refused-short : (a : Answer) (r : Refusal) → a ≡ answer.Refused r → answerLength a ≤ 255
 refused-short a r e = rw e (omega arith)
@@ -77,9 +91,12 @@ flagged-refused-short a r e = rw e (omega arith)
 pub duplex-refused-short : (a : DuplexAnswer) (r : Refusal) → a ≡ duplex.Refused r → duplexLength a ≤ 255
 duplex-refused-short a r e = rw e (omega arith)
 
--- with a claim that comes last
+-- with a claim that comes last, and one that follows from the first
 pub ended-with : {A B C D : Type 0} → A × (B × C) → D → A × (B × (C × D))
 ended-with e d = (e .0, (e .1 .0, (e .1 .1, d)))
+
+pub ended-also : {A B C D E : Type 0} → A × (B × C) → D → (A → E) → A × (B × (C × (D × E)))
+ended-also e d f = (e .0, (e .1 .0, (e .1 .1, (d, f (e .0)))))
 
 -- what was put, by put's reply v
 abbrev Kept : Found → Result Found → Verdict → Type 0

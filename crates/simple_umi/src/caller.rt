@@ -5,7 +5,7 @@ ghost use lib.ListN.{take};
 ghost use Rattle.refusals.specs.Result.{andThen};
 ghost use Rattle.umi_column.specs.Dna.{isDnaBase};
 ghost use Rattle.simple_umi.specs.Consensus.{callerAt, defaultCaller, withBuilder, umisOf};
-ghost use Rattle.simple_umi.specs.Answers.{roomFor, callConsensusIn, consensusUmisIn, answerOf, answerLength, bufferAfter, callerAfter};
+ghost use Rattle.simple_umi.specs.Answers.{roomFor, callConsensusIn, consensusUmisIn, answerOf, answerNumber, numberIn, answerLength, bufferAfter, callerAfter};
 ghost use Rattle.simple_umi.specs.Places.{Trimmed, stringsAt};
 use crate::answers::Answer;
 use crate::family::alike;
@@ -77,6 +77,7 @@ impl SimpleConsensusCaller {
         ensures caller { λ r. ⌜ r .caller ≡ callerAfter self (callConsensusIn self (now (set .entry)) (now (out .entry))) ⌝ }
         ensures lent { λ _. ⌜ now (out .exit) ≡ bufferAfter (now (out .entry)) (callConsensusIn self (now (set .entry)) (now (out .entry))) ⌝ }
         ensures short { λ r. ⌜ answerLength (r .answer) ≤ 255 ⌝ }
+        ensures number { λ r. ⌜ answerNumber (r .answer) ≡ numberIn (callConsensusIn self (now (set .entry)) (now (out .entry))) ⌝ }
     {
         let read = string_set::read(set);
         let reading = read.reading;
@@ -154,6 +155,7 @@ pub fn consensus_umis(set: &[u8], out: &mut [u8]) -> Answer
     ensures answer { λ r. ⌜ r ≡ answerOf (consensusUmisIn (now (set .entry)) (now (out .entry))) ⌝ }
     ensures lent { λ _. ⌜ now (out .exit) ≡ bufferAfter (now (out .entry)) (consensusUmisIn (now (set .entry)) (now (out .entry))) ⌝ }
     ensures short { λ r. ⌜ answerLength r ≤ 255 ⌝ }
+    ensures number { λ r. ⌜ answerNumber r ≡ numberIn (consensusUmisIn (now (set .entry)) (now (out .entry))) ⌝ }
 {
     let read = string_set::read(set);
     let reading = read.reading;

@@ -3,7 +3,7 @@
 ghost use mathlib.Core.Path.{_≡_};
 ghost use Prim.Native.Nat.{_≤_};
 ghost use Rattle.simple_umi.specs.Consensus.{defaultCaller};
-ghost use Rattle.simple_umi.specs.Answers.{consensusIn, duplexIn, flaggedOf, flaggedLength, duplexAnswerOf, duplexLength, pairFound, bufferAfter, callerAfter};
+ghost use Rattle.simple_umi.specs.Answers.{consensusIn, duplexIn, flaggedOf, flaggedNumber, flaggedLength, duplexAnswerOf, duplexNumber, duplexLength, numberIn, pairFound, bufferAfter, callerAfter};
 use crate::answers::DuplexAnswer;
 use crate::answers::FlaggedAnswer;
 use crate::caller::SimpleConsensusCaller;
@@ -52,6 +52,7 @@ impl SimpleUmiConsensusCaller {
         ensures caller { λ r. ⌜ r .caller .caller ≡ callerAfter (self .caller) (consensusIn (self .caller) (now (set .entry)) (now (out .entry))) ⌝ }
         ensures lent { λ _. ⌜ now (out .exit) ≡ bufferAfter (now (out .entry)) (consensusIn (self .caller) (now (set .entry)) (now (out .entry))) ⌝ }
         ensures short { λ r. ⌜ flaggedLength (r .answer) ≤ 255 ⌝ }
+        ensures number { λ r. ⌜ flaggedNumber (r .answer) ≡ numberIn (consensusIn (self .caller) (now (set .entry)) (now (out .entry))) ⌝ }
     {
         let caller = self.caller;
         let read = string_set::read(set);
@@ -84,6 +85,7 @@ impl SimpleUmiConsensusCaller {
         ensures caller { λ r. ⌜ r .caller .caller ≡ callerAfter (self .caller) (pairFound (duplexIn (self .caller) (now (set .entry)) (now (out .entry)))) ⌝ }
         ensures lent { λ _. ⌜ now (out .exit) ≡ bufferAfter (now (out .entry)) (pairFound (duplexIn (self .caller) (now (set .entry)) (now (out .entry)))) ⌝ }
         ensures short { λ r. ⌜ duplexLength (r .answer) ≤ 255 ⌝ }
+        ensures number { λ r. ⌜ duplexNumber (r .answer) ≡ numberIn (duplexIn (self .caller) (now (set .entry)) (now (out .entry))) ⌝ }
     {
         let caller = self.caller;
         let read = string_set::read(set);

@@ -10,9 +10,9 @@ use Rattle.string_set.specs.StringSet.{readSet}
 use Rattle.simple_umi.specs.declared.caller.SimpleConsensusCaller.{SimpleConsensusCaller}
 use Rattle.simple_umi.specs.Consensus.{umisOf}
 use Rattle.simple_umi.specs.Places.{Trimmed, stringsAt}
-use Rattle.simple_umi.specs.Answers.{roomFor, answerOf, bufferAfter}
+use Rattle.simple_umi.specs.Answers.{roomFor, consensusUmisIn, answerOf, bufferAfter}
 use Rattle.simple_umi.proofs.Groups.{read-refused, read-strings}
-use Rattle.simple_umi.proofs.Replies.{umis-in-refused, umis-in}
+use Rattle.simple_umi.proofs.Replies.{numbered, umis-in-refused, umis-in}
 use Rattle.simple_umi.proofs.caller.consensus_umis.Statement.{statement}
 use Rattle.simple_umi.proofs.caller.consensus_umis.Tie as tie
 
@@ -56,7 +56,7 @@ returns c =
     let s = g .before .before .before .before .before .before .args in
     let t = read-refused (s .set .now) (r .result .places) (readSet (s .set .now)) (r .result .reading) (r .ensures .0) (r .ensures .1) _ (g .reading .given .1) in
     let e = sym (umis-in-refused (s .set .now) (s .out .now) _ t) in
-    (ap answerOf e, (ap (bufferAfter (s .out .now)) e, omega arith))
+    (ap answerOf e, (ap (bufferAfter (s .out .now)) e, (omega arith, numbered _ (consensusUmisIn (s .set .now) (s .out .now)) (ap answerOf e))))
 
 same-length : tie.Need-same-length
 same-length c = search needs
@@ -72,7 +72,7 @@ returns-2 c =
     ap (λ (x : SimpleConsensusCaller). andThen (umisOf x l) (roomFor (s .out .now))) (d .default .ensures)
     ∙ umis-in (s .set .now) (s .out .now) l (strings g .0) in
     let said = k .call-strings .ensures in
-    (said .0 ∙ ap answerOf e, (said .1 .1 .0 ∙ ap (bufferAfter (s .out .now)) e, said .1 .1 .1))
+    (said .0 ∙ ap answerOf e, (said .1 .1 .0 ∙ ap (bufferAfter (s .out .now)) e, (said .1 .1 .1, numbered _ (consensusUmisIn (s .set .now) (s .out .now)) (said .0 ∙ ap answerOf e))))
 
 pub consensus-umis-spec : {M : Type 1} → statement M
 consensus-umis-spec =

@@ -10,7 +10,7 @@ use Rattle.string_set.specs.StringSet.{readSet}
 use Rattle.simple_umi.specs.Places.{Trimmed, stringsAt}
 use Rattle.simple_umi.specs.Answers.{callConsensusIn, answerOf}
 use Rattle.simple_umi.proofs.Groups.{strings-count, read-refused, read-strings}
-use Rattle.simple_umi.proofs.Replies.{refused-short, ended-with, ended-refused, ended-as, call-in-refused, call-in-none, call-in}
+use Rattle.simple_umi.proofs.Replies.{refused-short, numbered, ended-also, ended-refused, ended-as, call-in-refused, call-in-none, call-in}
 use Rattle.simple_umi.proofs.caller.SimpleConsensusCaller.call_consensus.Statement.{statement}
 use Rattle.simple_umi.proofs.caller.SimpleConsensusCaller.call_consensus.Tie as tie
 
@@ -54,11 +54,11 @@ returns c =
     let g = c .before .before .before in
     let s = g .before .before .before .before .before .before .args in
     let x = c .refused2 .result in
-    ended-with
+    ended-also
     (ended-refused answerOf (s .self) (s .out .now) (x .answer) (x .caller) _ _
     (call-in-none (s .set .now) (s .out .now) (s .self) _ (strings g .0) (count g ∙ c .before .if1 .taken))
     (c .refused2 .ensures .1) (c .refused2 .ensures .0))
-    (refused-short (x .answer) _ (c .refused2 .ensures .1))
+    (refused-short (x .answer) _ (c .refused2 .ensures .1)) (numbered (x .answer) (callConsensusIn (s .self) (s .set .now) (s .out .now)))
 
 call-strings-requires : tie.Need-call-strings-requires
 call-strings-requires c κs =
@@ -72,10 +72,10 @@ returns-2 c =
     let s = g .before .before .before .before .before .before .args in
     let x = c .refused .result in
     let e = read-refused (s .set .now) (r .result .places) (readSet (s .set .now)) (r .result .reading) (r .ensures .0) (r .ensures .1) _ (g .reading .given .1) in
-    ended-with
+    ended-also
     (ended-refused answerOf (s .self) (s .out .now) (x .answer) (x .caller) _ _
     (call-in-refused (s .set .now) (s .out .now) (s .self) _ e) (c .refused .ensures .1) (c .refused .ensures .0))
-    (refused-short (x .answer) _ (c .refused .ensures .1))
+    (refused-short (x .answer) _ (c .refused .ensures .1)) (numbered (x .answer) (callConsensusIn (s .self) (s .set .now) (s .out .now)))
 
 same-length : tie.Need-same-length
 same-length c = search needs
@@ -89,10 +89,10 @@ returns-3 c =
     let some : 0 < countOf g = omega (arith, k .before .before .before .if1 .left) in
     let more : 0 < length (stringsAt 0 (setOf g) (take (countOf g) (placesOf g))) = rw (count g) some in
     let e = k .call-strings .ensures in
-    ended-with
+    ended-also
     (ended-as answerOf (s .self) (s .out .now) (x .answer) (x .caller) (k .call-strings .last .1 .1 .1 .1 .0) _ (callConsensusIn (s .self) (s .set .now) (s .out .now))
     (call-in (s .set .now) (s .out .now) (s .self) _ (strings g .0) more) (e .0, (e .1 .0, e .1 .1 .0)))
-    (e .1 .1 .1)
+    (e .1 .1 .1) (numbered (x .answer) (callConsensusIn (s .self) (s .set .now) (s .out .now)))
 
 pub call-consensus-spec : {M : Type 1} → statement M
 call-consensus-spec =

@@ -3,8 +3,9 @@ use mathlib.Core.Path.{_≡_, refl, sym, _∙_}
 use lib.ListN.{length, length-map}
 use borrow.Author.Needs.{needs}
 use Rattle.string_set.specs.StringSet.{readSet}
+use Rattle.simple_umi.specs.Answers.{duplexIn}
 use Rattle.simple_umi.proofs.Groups.{read-refused, read-strings}
-use Rattle.simple_umi.proofs.Replies.{duplex-refused-short, ended-with}
+use Rattle.simple_umi.proofs.Replies.{duplex-numbered, duplex-refused-short, ended-also}
 use Rattle.simple_umi.proofs.Strands.{duplex-unread, duplex-not-put, duplex-put}
 use Rattle.simple_umi.proofs.umi_caller.SimpleUmiConsensusCaller.consensus_duplex.Statement.{
   statement,
@@ -53,9 +54,9 @@ returns c =
     let s = a .set .now in
     let g = c .before .before .reading .given in
     let t = read-refused s (r .result .places) (readSet s) (r .result .reading) (r .ensures .0) (r .ensures .1) (g .0 .0) (g .1) in
-    ended-with
+    ended-also
     (duplex-unread (a .self .caller) s (a .out .now) _ _ (g .0 .0) t (c .duplex-refused .ensures .1) (c .duplex-refused .ensures .0))
-    (duplex-refused-short (c .duplex-refused .result .answer) _ (c .duplex-refused .ensures .1))
+    (duplex-refused-short (c .duplex-refused .result .answer) _ (c .duplex-refused .ensures .1)) (duplex-numbered _ (duplexIn (a .self .caller) s (a .out .now)))
 
 same-length : tie.Need-same-length
 same-length c = search needs
@@ -71,10 +72,10 @@ returns-2 c =
     let g = m .reading2 .given in
     let t = read-strings s (r .result .places) (readSet s) (r .result .reading) (r .ensures .0) (r .ensures .1) (g .0 .0) (g .1) in
     let e = c .before .before .r .given in
-    ended-with
+    ended-also
     (duplex-not-put (a .self .caller) s (a .out .now) _ _ _ (t .0) (p .result) (p .ensures .0) _ (w .put .result) (w .put .ensures .0) (w .put .ensures .1)
     (e .0 .0) (e .1) (c .duplex-refused2 .ensures .1) (c .duplex-refused2 .ensures .0))
-    (duplex-refused-short (c .duplex-refused2 .result .answer) _ (c .duplex-refused2 .ensures .1))
+    (duplex-refused-short (c .duplex-refused2 .result .answer) _ (c .duplex-refused2 .ensures .1)) (duplex-numbered _ (duplexIn (a .self .caller) s (a .out .now)))
 
 same-length-2 : tie.Need-same-length-2
 same-length-2 c = search needs
@@ -91,10 +92,10 @@ returns-3 c =
     let t = read-strings s (r .result .places) (readSet s) (r .result .reading) (r .ensures .0) (r .ensures .1) (g .0 .0) (g .1) in
     let text = p .result .group .text in
     let bytes : length text ≡ 255 = sym (length-map text (λ x. x)) ∙ p .ok .1 .1 .0 .1 .1 .1 .0 .1 .0 .1 in
-    ended-with
+    ended-also
     (duplex-put (a .self .caller) s (a .out .now) _ _ _ (t .0) (p .result) (p .ensures .0) _ (w .put .result) (w .put .ensures .0) (w .put .ensures .1)
     (c .before .enum-told .given .1) (p .ensures .1) bytes refl (c .with-builder .ensures))
-    (p .ensures .1)
+    (p .ensures .1) (duplex-numbered _ (duplexIn (a .self .caller) s (a .out .now)))
 
 pub consensus-duplex-spec : {M : Type 1} → statement M
 consensus-duplex-spec =
