@@ -5,7 +5,8 @@ SHELL := bash
 .SHELLFLAGS := -eu -o pipefail -c
 
 # How many arguments of each range `make differential` compares, how many histories of the builder,
-# how many builders of any state, and how many sets of UMI strings of each drawn kind.
+# how many builders of any state, and how many sets of UMI strings are drawn (as many again for other
+# rates).
 ARGUMENTS ?= 10000000
 HISTORIES ?= 1000000
 BUILDERS ?= 20000

@@ -1,7 +1,7 @@
 -- The builder of one position and its calls. Definitions only.
 use Prim.Native.Nat.{ℕ, _+_, _%_, _^_, min}
 use mathlib.Core.Bool.{Bool, not, _&&_, _||_}
-use mathlib.Core.List.{List, [], _∷_}
+use mathlib.Core.List.{List}
 use lib.Dec.{leb, ltb, eqb}
 use lib.ListN.{getD, replicate}
 use lib.Ieee.{Float, nan}
@@ -9,7 +9,7 @@ use Rattle.float.specs.Ops.{nought, if_then_else_}
 use Rattle.phred.specs.Phred.{phredToLnErrorProb}
 use Rattle.phred.specs.declared.LogProbability.{LogProbability}
 use Rattle.tie_rules.specs.declared.tie_rule.TieRule.{TieRule}
-use Rattle.tie_rules.specs.declared.tie_rule.TieRule.the-variants.{UlpRelative, FgbioCompat}
+use Rattle.tie_rules.specs.declared.tie_rule.TieRule.the-variants.{FgbioCompat}
 use Rattle.base_builder.specs.declared.observation.Sum.{Sum}
 use Rattle.base_builder.specs.declared.builder.ConsensusBaseBuilder.{ConsensusBaseBuilder}
 use Rattle.base_builder.specs.declared.builder.Answer.{Answer}

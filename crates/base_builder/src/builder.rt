@@ -1,9 +1,8 @@
 // The builder of one position: a running sum of logarithms for each base, and how often each base was
 // observed. It goes in by value and comes back.
 ghost use mathlib.Core.Path.{_≡_};
-ghost use mathlib.Core.Bool.{false};
 ghost use Prim.Native.Nat.{_<_};
-ghost use Rattle.base_builder.specs.Builder.{total as totalOf, cleared as clearedOf, newAt, withRule, resetOf, movedLane, sumOf, observed as observedOf, isFull, entryOf, addedBy, added, answerOf, numberOf, refusalOf, contributionsOf, observationsForBase};
+ghost use Rattle.base_builder.specs.Builder.{total as totalOf, cleared as clearedOf, newAt, withRule, resetOf, movedLane, observed as observedOf, entryOf, addedBy, added, answerOf, numberOf, refusalOf, contributionsOf, observationsForBase};
 use crate::observation::Sum;
 use crate::observation::count;
 use crate::observation::moved;

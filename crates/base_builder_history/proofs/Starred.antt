@@ -1,10 +1,10 @@
 -- Document 01's inputs that are marked with a star, in one list. The two on a new builder hold at any rate and with any tables. Assumes nothing.
 use mathlib.Core.Bool.{Bool, _&&_}
 use mathlib.Core.List.{List, [], _∷_}
-use Prim.Native.Nat.{ℕ, _^_}
+use Prim.Native.Nat.{ℕ}
 use lib.Dec.{T, eqb}
 use lib.Ieee.{Float, nan, neg, lt, le, eq, isNan, add as add', sub, mul, div, ofBits, ofInt, toBits}
-use Rattle.float.specs.Ops.{_⊕_, _⊖_, bits, whole, one}
+use Rattle.float.specs.Ops.{_⊕_, _⊖_, bits, whole}
 use Rattle.float.specs.Methods.{absOf, floorOf}
 use Rattle.float.specs.Claims.{all}
 use Rattle.phred.specs.Phred.{lnZero, phredToLnErrorProb, lnProbToPhred}

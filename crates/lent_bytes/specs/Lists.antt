@@ -28,7 +28,7 @@ abbrev pub lastOr : {A : Type 0} → A → List A → A
 lastOr x [] = x
 lastOr x (y ∷ ys) = lastOr y ys
 
--- no list
+-- there is none in it
 abbrev pub isEmpty : {A : Type 0} → List A → Bool
 isEmpty [] = true
 isEmpty (x ∷ xs) = false

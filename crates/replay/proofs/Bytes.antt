@@ -1,15 +1,15 @@
 -- Bytes in digits, two for each, read one by one. Assumes nothing.
 use Prim.Native.Nat.{ℕ, suc, _+_, _≤_, _<_}
-use mathlib.Core.Path.{_≡_, refl, ap}
+use mathlib.Core.Path.{_≡_}
 use mathlib.Core.Bool.{true, false}
 use mathlib.Core.List.{List, [], _∷_, _++_}
 use native.Mathlib.Numerals.{add-one}
 use native.Mathlib.Omega.{arith}
-use lib.Dec.{ltb, eqb}
+use lib.Dec.{ltb}
 use lib.ListN.{length, take, drop, getD, set, drop-of-length-le}
 use lib.Seq.{drop-cons, append-snoc, take-suc-set}
-use borrow.Author.Tests.{ltb-true, eqb-true, lt-ltb, le-ltb, eq-eqb, ne-eqb}
-use Rattle.float.proofs.Cases.{both, clash, and-false}
+use borrow.Author.Tests.{ltb-true, lt-ltb, le-ltb}
+use Rattle.float.proofs.Cases.{both}
 use Rattle.replay.specs.Hex.{digitOf}
 use Rattle.replay.specs.Builders.{areDigits, byteOf, bytesOf}
 

@@ -43,14 +43,17 @@ duplexIn c set out = andThen (andThen (readSet set) (duplexOf c)) (λ d. andThen
 
 -- ---- the replies: a refusal, or the length of the string with what else is asked for
 
+-- of `call_consensus` and `consensus_umis`
 abbrev pub answerOf : Result Found → Answer
 answerOf (refused r) = answer.Refused r
 answerOf (accepted f) = answer.Given (length (f .text))
 
+-- of `consensus`, with its flag
 abbrev pub flaggedOf : Result Found → FlaggedAnswer
 flaggedOf (refused r) = flagged.Refused r
 flaggedOf (accepted f) = flagged.Given (length (f .text)) (f .hadErrors)
 
+-- of `consensus_duplex`, with both flags
 abbrev pub duplexAnswerOf : Result FoundDuplex → DuplexAnswer
 duplexAnswerOf (refused r) = duplex.Refused r
 duplexAnswerOf (accepted d) = duplex.Given (length (d .found .text)) (d .found .hadErrors) (d .hadErrorsB)

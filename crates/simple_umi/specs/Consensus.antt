@@ -61,17 +61,20 @@ familyFound c width strings =
 unfoldable pub firstFound : SimpleConsensusCaller → List (List ℕ) → Found
 firstFound c strings = record { text = firstOf strings; hadErrors = not (alike strings); builder = c .builder }
 
+-- of any list of strings
 unfoldable pub found : SimpleConsensusCaller → List (List ℕ) → Found
 found c strings =
     if isFamily strings then familyFound c (length (firstOf strings)) strings
     else firstFound c strings
 
--- what each says of a list of strings
+-- what `consensus` says of a list of strings
 abbrev pub consensusOf : SimpleConsensusCaller → List (List ℕ) → Result Found
 consensusOf c strings = judged (consensusVerdict strings) (found c strings)
 
+-- what `consensus_umis` says, by any caller
 abbrev pub umisOf : SimpleConsensusCaller → List (List ℕ) → Result Found
 umisOf c strings = judged (umisVerdict strings) (found c strings)
 
+-- what `call_consensus` says
 abbrev pub callConsensusOf : SimpleConsensusCaller → List (List ℕ) → Result Found
 callConsensusOf c strings = judged (callVerdict strings) (found c strings)

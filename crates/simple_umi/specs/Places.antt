@@ -28,6 +28,7 @@ Trimmed trim s ps n =
 unfoldable pub trimmedAt : ℕ → List ℕ → ℕ → List ℕ
 trimmedAt trim s p = take (byteAt s p - trim) (drop (p + 1) s)
 
+-- at each place
 abbrev pub stringsAt : ℕ → List ℕ → List ℕ → List (List ℕ)
 stringsAt trim s ps = map (trimmedAt trim s) ps
 
@@ -43,21 +44,23 @@ bytesAt k s ps = map (λ p. byteAt s (p + 1 + k)) ps
 abbrev pub lengthsAlike : List ℕ → List ℕ → Bool
 lengthsAlike s ps = every (λ p. eqb (byteAt s p) (byteAt s (byteAt ps 0))) ps
 
--- the builder after a column, from one made to see nothing
+-- the builder after a column, from one after a reset
 abbrev pub builderBy : AdjustedEntry → ConsensusBaseBuilder → List ℕ → ConsensusBaseBuilder
 builderBy e b column = addedAll (e .correct) (e .«error_per_alt») column (resetOf b)
 
--- a byte for each column, and the builder after the last
+-- a byte for each column
 abbrev pub bytesBy : AdjustedEntry → ConsensusBaseBuilder → List (List ℕ) → List ℕ
 bytesBy e b columns = map (λ column. namedByte (builderBy e b column) (byteAt column 0)) columns
 
+-- the builder after the last
 abbrev pub lastBy : AdjustedEntry → ConsensusBaseBuilder → List (List ℕ) → ConsensusBaseBuilder
 lastBy e b columns = lastOr b (map (builderBy e b) columns)
 
--- what a group says
+-- what a group holds
 abbrev pub groupFound : Group → Found
 groupFound g = record { text = take (g .length) (g .text); hadErrors = g .«had_errors»; builder = g .builder }
 
+-- what it says: that, or its refusal
 abbrev pub groupResult : Group → Result Found
 groupResult g = judged (g .verdict) (groupFound g)
 

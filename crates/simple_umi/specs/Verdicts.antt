@@ -1,6 +1,5 @@
 -- What is refused in a list of strings. Definitions only.
 use Prim.Native.Nat.{ℕ}
-use mathlib.Core.Bool.{not}
 use mathlib.Core.List.{List, [], _∷_}
 use lib.ListN.{length}
 use Rattle.float.specs.Ops.{if_then_else_}

@@ -21,7 +21,8 @@ pub struct Strand {
     pub count: usize,
 }
 
-// What both strands give: /A's group, or /B's text in it, and /B's flag.
+// What both strands give: /A's text and flag, or /B's text where /A's is empty, with /B's verdict and builder;
+// and /B's flag.
 pub struct Pair {
     pub group: Group,
     pub had_errors_b: bool,

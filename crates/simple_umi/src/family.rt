@@ -80,7 +80,7 @@ pub(crate) fn any_high(set: &[u8], places: &[usize; 255], count: usize, width: u
 }
 
 // Whether a string differs from a text of its width.
-pub(crate) fn any_unlike(set: &[u8], places: &[usize; 255], count: usize, text: &[u8]) -> bool
+pub(crate) fn any_differs(set: &[u8], places: &[usize; 255], count: usize, text: &[u8]) -> bool
     requires { ⌜ (count ≤ 255) × (length (now text) ≤ 255) × Fits (length (now text)) (now set) (now places) count ⌝ }
     ensures { λ r. ⌜ r ≡ any (differsFrom (now (text .entry))) (rowsAt (length (now (text .entry))) (now (set .entry)) (take count (now (places .entry)))) ⌝ }
 {
@@ -118,7 +118,7 @@ pub(crate) fn columns_verdict(
     Verdict::Sound
 }
 
-// Each column in turn, from the builder made to see nothing.
+// Each column in turn, from the builder after a reset.
 pub(crate) fn call_columns(
     builder: ConsensusBaseBuilder,
     entry: AdjustedEntry,

@@ -2,15 +2,15 @@
 ghost use mathlib.Core.Path.{_≡_};
 ghost use Prim.Native.Nat.{_+_, _≤_, _<_};
 ghost use lib.ListN.{length, take, drop};
-ghost use Rattle.refusals.specs.Result.{Result, refused, judged, andThen};
+ghost use Rattle.refusals.specs.Result.{refused, judged, andThen};
 ghost use Rattle.simple_umi.specs.Verdicts.{familyVerdict};
 ghost use Rattle.simple_umi.specs.Consensus.{familyFound, consensusOf};
 ghost use Rattle.simple_umi.specs.Answers.{roomFor, verdictIn, bufferAfter};
 ghost use Rattle.simple_umi.specs.Places.{Fits, rowsAt, Trimmed, stringsAt, groupResult};
 use crate::caller::SimpleConsensusCaller;
 use crate::family::alike;
+use crate::family::any_differs;
 use crate::family::any_high;
-use crate::family::any_unlike;
 use crate::family::call_columns;
 use crate::family::columns_verdict;
 use base_builder::ConsensusBaseBuilder;
@@ -79,7 +79,7 @@ fn family(
             let columns = call_columns(builder, entry, set, places, count, width);
             let text = columns.text;
             let after = columns.builder;
-            let had_errors = any_unlike(set, places, count, &text[..width]);
+            let had_errors = any_differs(set, places, count, &text[..width]);
             Group {
                 verdict: Verdict::Sound,
                 text,

@@ -1,7 +1,8 @@
 -- What is answered to every list of strings. Assumes nothing.
 use mathlib.Core.Path.{_≡_, refl, sym, _∙_, ap}
 use mathlib.Core.Bool.{Bool, true, false, not}
-use mathlib.Core.List.{List, [], _∷_, map}
+use mathlib.Core.Logic.{inl, inr}
+use mathlib.Core.List.{List, [], _∷_, _++_, map}
 use Prim.Native.Nat.{ℕ, zero, suc, _+_, _<_}
 use native.Mathlib.Nat.{add-zero, zero-add}
 use native.Mathlib.Omega.{arith}
@@ -9,22 +10,24 @@ use borrow.Author.Tests.{eqb-false, lt-ltb}
 use lib.Dec.{ltb, eqb}
 use lib.ListN.{length}
 use Rattle.float.proofs.Cases.{test, clash}
-use Rattle.lent_bytes.specs.Lists.{any, lastOr, isEmpty, byteAt}
+use Rattle.lent_bytes.specs.Lists.{any, lastOr, sameBytes, byteAt}
 use Rattle.lent_bytes.proofs.Tests.{any-by-failed}
-use Rattle.lent_bytes.proofs.Same.{same-self, same-lengths}
+use Rattle.lent_bytes.proofs.Same.{same-self, same-lengths, same-equal}
 use Rattle.refusals.specs.declared.Refusal.{Refusal}
 use Rattle.refusals.specs.Result.{Result, refused, accepted}
 use Rattle.rate_tables.specs.Tables.{listed}
 use Rattle.rate_tables.proofs.Filled.{listed-length, level-at}
 use Rattle.base_builder.specs.declared.builder.ConsensusBaseBuilder.{ConsensusBaseBuilder}
+use Rattle.base_builder.specs.Builder.{resetOf}
 use Rattle.umi_column.specs.Dna.{isDnaBase}
 use Rattle.umi_column.proofs.Columns.{column-byte-kind, column-byte-other}
 use Rattle.simple_umi.specs.declared.caller.SimpleConsensusCaller.{SimpleConsensusCaller}
 use Rattle.simple_umi.specs.Strings.{firstOf, columnOf, columnsOf, alike, isFamily, differsFrom}
-use Rattle.simple_umi.specs.Consensus.{Found, defaultCaller, builderAt, byteOf, familyFound, firstFound, found, consensusOf, umisOf, callConsensusOf}
-use Rattle.simple_umi_laws.specs.Laws.{isBaseOrN, Answered}
-use Rattle.simple_umi_laws.proofs.ConditionLaws.{unlike-no-family, unlike-some, one-alike, one-no-family}
-use Rattle.simple_umi_laws.proofs.ConditionLaws.{other-sound, alike-umis, unlike-umis, none-call, some-call, none-verdicts, one-umis, one-call}
+use Rattle.simple_umi.specs.Consensus.{Found, withBuilder, builderAt, byteOf, familyFound, firstFound, found, consensusOf, umisOf, callConsensusOf}
+use Rattle.simple_umi_laws.specs.Laws.{isBaseOrN, builderAfter, Answered}
+use Rattle.simple_umi_laws.proofs.Resets.{column-start, columns-reset, columns-last}
+use Rattle.simple_umi.proofs.Groups.{said-first, umis-alike, umis-unlike, call-none, call-some}
+use Rattle.simple_umi_laws.proofs.ConditionLaws.{one-alike}
 
 -- ---- lists that a rule gives
 
@@ -84,23 +87,44 @@ other-flag (t ∷ u ∷ ts) h =
     let unlike : alike (t ∷ u ∷ ts) ≡ false = rw two at h in
     rw unlike (sym (any-by-failed (λ x. eqb (length x) (length t)) (differsFrom t) (unlike-differs t) (t ∷ u ∷ ts) unlike))
 
+-- one of a list passes the test
+any-of : {A : Type 0} (p : A → Bool) (before after : List A) (x : A) → p x ≡ true → any p (before ++ (x ∷ after)) ≡ true
+any-of p [] after x h = rw h
+any-of p (y ∷ before) after x h = test (p y) (λ e. rw e) (λ e. rw e (any-of p before after x h))
+
 -- ---- what is answered
 
 isAccepted : {A : Type 0} → Result A → Bool
 isAccepted (refused r) = false
 isAccepted (accepted a) = true
 
-no-refusal : {A : Type 0} {r : Refusal} {a : A} {B : Type 0} → refused r ≡ accepted a → B
+pub no-refusal : {A : Type 0} {r : Refusal} {a : A} {B : Type 0} → refused r ≡ accepted a → B
 unfolding isAccepted
 no-refusal e = clash refl (ap isAccepted e)
 
-none-found : (c : SimpleConsensusCaller) → found c [] ≡ record { text = []; hadErrors = false; builder = c .builder }
-unfolding found firstFound isFamily alike
-none-found c = refl
+module _ (c : SimpleConsensusCaller) where
+  -- no strings, or one
+  none-said : consensusOf c [] ≡ accepted (record { text = []; hadErrors = false; builder = c .builder })
+  unfolding alike firstFound
+  none-said = said-first c [] (inl (omega arith))
 
-one-found : (c : SimpleConsensusCaller) (t : List ℕ) → found c (t ∷ []) ≡ record { text = t; hadErrors = false; builder = c .builder }
-unfolding firstFound
-one-found c t = other-found c (t ∷ []) (one-no-family t) ∙ rw (one-alike t)
+  none-umis : umisOf c [] ≡ accepted (record { text = []; hadErrors = false; builder = c .builder })
+  unfolding alike
+  none-umis = umis-alike c [] refl ∙ none-said
+
+  one-said : (t : List ℕ) → consensusOf c (t ∷ []) ≡ accepted (record { text = t; hadErrors = false; builder = c .builder })
+  unfolding firstFound
+  one-said t = said-first c (t ∷ []) (inl (omega arith)) ∙ rw (one-alike t)
+
+  all-agree : (strings : List (List ℕ)) (f : Found) → callConsensusOf c strings ≡ accepted f → consensusOf c strings ≡ accepted f
+  all-agree [] f e = no-refusal (sym (call-none c [] refl) ∙ e)
+  all-agree (t ∷ ts) f e =
+      let u : umisOf c (t ∷ ts) ≡ accepted f = sym (call-some c (t ∷ ts) (omega arith)) ∙ e in
+      test (alike (t ∷ ts)) (λ h. sym (umis-alike c (t ∷ ts) h) ∙ u) (λ h. no-refusal (sym (umis-unlike c (t ∷ ts) h) ∙ u))
+
+  some-umis : (strings : List (List ℕ)) → (strings ≡ [] → ⊥) → umisOf c strings ≡ callConsensusOf c strings
+  some-umis [] n = absurd (n refl)
+  some-umis (t ∷ ts) n = sym (call-some c (t ∷ ts) (omega arith))
 
 module _ (c : SimpleConsensusCaller) (strings : List (List ℕ)) where
   abbrev width : ℕ
@@ -128,9 +152,18 @@ module _ (c : SimpleConsensusCaller) (strings : List (List ℕ)) where
   unfolding firstFound
   flags = test (isFamily strings) (family-flag c strings) (λ h. rw (other-found c strings h) (other-flag strings h))
 
+  lower-case : isFamily strings ≡ true
+      → (before after : List (List ℕ)) (t : List ℕ) → strings ≡ before ++ (t ∷ after)
+      → (k : ℕ) → k < width → isDnaBase (byteAt (firstOf strings) k) ≡ true → isBaseOrN (byteAt t k) ≡ false → found c strings .hadErrors ≡ true
+  lower-case h before after t e k l d n =
+      let text = found c strings .text in
+      let differs : differsFrom text t ≡ true =
+      test (sameBytes t text) (λ s. clash n (rw (same-equal t text s) (all-letters h k l d))) (λ s. ap not s) in
+      flags ∙ ap (any (differsFrom text)) e ∙ any-of (differsFrom text) before after t differs
+
   unequal-first : alike strings ≡ false → consensusOf c strings ≡ accepted (record { text = firstOf strings; hadErrors = true; builder = c .builder })
   unfolding firstFound
-  unequal-first h = rw (other-sound strings (unlike-no-family strings h), other-found c strings (unlike-no-family strings h), h)
+  unequal-first h = said-first c strings (inr h) ∙ rw h
 
   same-builder : isFamily strings ≡ false → found c strings .builder ≡ c .builder
   unfolding firstFound
@@ -145,15 +178,28 @@ module _ (c : SimpleConsensusCaller) (strings : List (List ℕ)) where
   unfolding listed
   first-builder h e = rw (family-builder c strings h, e)
 
-  all-agree : (f : Found) → callConsensusOf c strings ≡ accepted f → consensusOf c strings ≡ accepted f
-  all-agree f e =
-      test (alike strings)
-      (λ a. test (isEmpty strings) (λ n. no-refusal (rw (none-call strings n) at e)) (λ s. rw (some-call strings s, alike-umis strings a) at e))
-      (λ u. no-refusal (rw (some-call strings (unlike-some strings u), unlike-umis strings u) at e))
+  all-columns : isFamily strings ≡ true → found c strings .builder ≡ builderAfter c (columnsOf width strings)
+  unfolding found familyFound
+  all-columns h =
+      rw h (sym (columns-last (c .«error_rate_post_labeling» .0) (c .«q_error» .0) (columnsOf width strings) (c .builder) (c .builder) refl))
 
-some-umis : (c : SimpleConsensusCaller) (strings : List (List ℕ)) → (strings ≡ [] → ⊥) → umisOf c strings ≡ callConsensusOf c strings
-some-umis c [] n = absurd (n refl)
-some-umis c (t ∷ ts) n = rw (some-call (t ∷ ts) refl)
+module _ (c : SimpleConsensusCaller) where
+  -- a column from a builder of the caller's rule and rate
+  pub same-start : (b : ConsensusBaseBuilder) (column : List ℕ) → resetOf b ≡ resetOf (c .builder) → builderAt (withBuilder b c) column ≡ builderAt c column
+  unfolding withBuilder
+  same-start b column e = column-start (c .«error_rate_post_labeling» .0) (c .«q_error» .0) column b (c .builder) e
+
+  after-reset : (columns : List (List ℕ)) → resetOf (builderAfter c columns) ≡ resetOf (c .builder)
+  after-reset columns = columns-reset (c .«error_rate_post_labeling» .0) (c .«q_error» .0) columns (c .builder)
+
+  any-start : (before : List (List ℕ)) (column : List ℕ) → builderAt (withBuilder (builderAfter c before) c) column ≡ builderAt c column
+  any-start before column = same-start (builderAfter c before) column (after-reset before)
+
+  pub found-reset : (strings : List (List ℕ)) → resetOf (found c strings .builder) ≡ resetOf (c .builder)
+  found-reset strings =
+      test (isFamily strings)
+      (λ h. ap resetOf (all-columns c strings h) ∙ after-reset (columnsOf (length (firstOf strings)) strings))
+      (λ h. ap resetOf (same-builder c strings h))
 
 pub answered : (c : SimpleConsensusCaller) (strings : List (List ℕ)) → Answered c strings
 answered c strings = record {
@@ -161,13 +207,18 @@ answered c strings = record {
   letter = all-letters c strings;
   own-byte = own-bytes c strings;
   flag = flags c strings;
-  none = λ e. rw (e, none-found c, none-verdicts .2);
-  one = λ t e. rw e (rw (one-found c t, other-sound (t ∷ []) (one-no-family t)), rw (one-found c t, one-umis t), rw (one-found c t, one-call t));
+  lower-case = lower-case c strings;
+  none = λ e. rw e (none-said c);
+  one = λ t e.
+      let u = umis-alike c (t ∷ []) (one-alike t) ∙ one-said c t in
+      rw e (one-said c t, u, call-some c (t ∷ []) (omega arith) ∙ u);
   unequal = unequal-first c strings;
   untouched = same-builder c strings;
   no-column = first-builder c strings;
   last-column = last-builder c strings;
+  all-columns = all-columns c strings;
+  any-start = any-start c;
   agree = all-agree c strings;
-  umis = some-umis defaultCaller strings;
-  umis-none = λ e. rw (e, none-found defaultCaller, none-verdicts .1);
+  umis = some-umis c strings;
+  umis-none = λ e. rw e (none-umis c);
 }

@@ -1,35 +1,29 @@
 -- What is refused of every list of strings, and for want of room. Assumes nothing.
 use mathlib.Core.Path.{_≡_, refl, _∙_}
 use mathlib.Core.Bool.{true, false}
+use mathlib.Core.Logic.{inl, inr}
 use mathlib.Core.List.{List, [], _∷_}
 use Prim.Native.Nat.{ℕ, zero, suc, _<_}
 use native.Mathlib.Nat.{le-of-suc-le-suc, not-suc-le-zero}
 use native.Mathlib.Omega.{arith}
-use borrow.Author.Tests.{eq-eqb, lt-ltb, ltb-true}
+use borrow.Author.Tests.{eq-eqb}
 use lib.Dec.{ltb}
 use lib.ListN.{length, getD}
-use Rattle.float.proofs.Cases.{both, clash, refuted, and-false}
+use Rattle.float.proofs.Cases.{both, clash}
 use Rattle.lent_bytes.specs.Lists.{any, isEmpty}
 use Rattle.refusals.specs.declared.Refusal.{Refusal}
 use Rattle.refusals.specs.declared.Refusal.the-variants.{NoStrings, LengthsDiffer, NotAscii}
 use Rattle.refusals.specs.declared.Verdict.the-variants.{Sound, Refused}
-use Rattle.rate_tables.proofs.Filled.{listed-length, level-at}
 use Rattle.umi_column.specs.Verdicts.{verdictOf}
-use Rattle.simple_umi.specs.Strings.{firstOf, columnOf, columnsOf, alike, isFamily, isHigh}
+use Rattle.simple_umi.specs.Strings.{firstOf, columnsOf, alike, isFamily, isHigh}
 use Rattle.simple_umi.specs.Verdicts.{firstRefusal, familyVerdict, consensusVerdict, umisVerdict, callVerdict}
 use Rattle.simple_umi.specs.Consensus.{Found}
-use Rattle.simple_umi.specs.Answers.{roomFor}
 use Rattle.simple_umi_laws.specs.Laws.{sound, Conditions, Room}
+use Rattle.simple_umi.proofs.Rows.{columns-length, column-at}
+use Rattle.simple_umi.proofs.Groups.{no-family}
+use Rattle.simple_umi.proofs.Replies.{room-short, room-enough}
 
 -- ---- columns
-
-columns-length : (width : ℕ) (strings : List (List ℕ)) → length (columnsOf width strings) ≡ width
-unfolding columnsOf
-columns-length width strings = listed-length (columnOf strings) 0 width
-
-columns-at : (width : ℕ) (strings : List (List ℕ)) (k : ℕ) → k < width → getD (columnsOf width strings) k [] ≡ columnOf strings k
-unfolding columnsOf
-columns-at width strings k h = level-at (columnOf strings) [] width k h
 
 first-faulty : (cs : List (List ℕ)) (k : ℕ) (r : Refusal) → k < length cs
     → ((j : ℕ) → j < k → sound (getD cs j []))
@@ -51,12 +45,8 @@ family-alike : (strings : List (List ℕ)) → isFamily strings ≡ true → ali
 unfolding isFamily
 family-alike strings h = both (ltb 1 (length strings)) (alike strings) h .1
 
-pub unlike-no-family : (strings : List (List ℕ)) → alike strings ≡ false → isFamily strings ≡ false
-unfolding isFamily
-unlike-no-family strings h = rw h (and-false (ltb 1 (length strings)))
-
 -- there are some where lengths differ, and in a family
-pub unlike-some : (strings : List (List ℕ)) → alike strings ≡ false → isEmpty strings ≡ false
+unlike-some : (strings : List (List ℕ)) → alike strings ≡ false → isEmpty strings ≡ false
 unfolding alike
 unlike-some [] h = clash h refl
 unlike-some (t ∷ ts) h = refl
@@ -70,30 +60,22 @@ pub one-alike : (t : List ℕ) → alike (t ∷ []) ≡ true
 unfolding alike
 one-alike t = rw (eq-eqb (length t) (length t) refl)
 
-pub one-no-family : (t : List ℕ) → isFamily (t ∷ []) ≡ false
-unfolding isFamily
-one-no-family t = refl
-
 -- ---- what is refused
 
 module _ (strings : List (List ℕ)) where
-  pub other-sound : isFamily strings ≡ false → consensusVerdict strings ≡ Sound
+  other-sound : isFamily strings ≡ false → consensusVerdict strings ≡ Sound
   unfolding consensusVerdict
   other-sound h = rw h
 
-  pub alike-umis : alike strings ≡ true → umisVerdict strings ≡ consensusVerdict strings
+  alike-umis : alike strings ≡ true → umisVerdict strings ≡ consensusVerdict strings
   unfolding umisVerdict
   alike-umis h = rw h
 
-  pub unlike-umis : alike strings ≡ false → umisVerdict strings ≡ Refused LengthsDiffer
+  unlike-umis : alike strings ≡ false → umisVerdict strings ≡ Refused LengthsDiffer
   unfolding umisVerdict
   unlike-umis h = rw h
 
-  pub none-call : isEmpty strings ≡ true → callVerdict strings ≡ Refused NoStrings
-  unfolding callVerdict
-  none-call h = rw h
-
-  pub some-call : isEmpty strings ≡ false → callVerdict strings ≡ umisVerdict strings
+  some-call : isEmpty strings ≡ false → callVerdict strings ≡ umisVerdict strings
   unfolding callVerdict
   some-call h = rw h
 
@@ -105,21 +87,21 @@ module _ (strings : List (List ℕ)) where
   unfolding consensusVerdict familyVerdict
   low-family h k = rw (h, k)
 
-pub none-verdicts : (callVerdict [] ≡ Refused NoStrings) × (umisVerdict [] ≡ Sound) × (consensusVerdict [] ≡ Sound)
+none-verdicts : (callVerdict [] ≡ Refused NoStrings) × (umisVerdict [] ≡ Sound) × (consensusVerdict [] ≡ Sound)
 unfolding callVerdict umisVerdict consensusVerdict isFamily alike
 none-verdicts = (refl, refl, refl)
 
-pub one-umis : (t : List ℕ) → umisVerdict (t ∷ []) ≡ Sound
-one-umis t = alike-umis (t ∷ []) (one-alike t) ∙ other-sound (t ∷ []) (one-no-family t)
+one-umis : (t : List ℕ) → umisVerdict (t ∷ []) ≡ Sound
+one-umis t = alike-umis (t ∷ []) (one-alike t) ∙ other-sound (t ∷ []) (no-family (t ∷ []) (inl (omega arith)))
 
-pub one-call : (t : List ℕ) → callVerdict (t ∷ []) ≡ Sound
+one-call : (t : List ℕ) → callVerdict (t ∷ []) ≡ Sound
 one-call t = some-call (t ∷ []) refl ∙ one-umis t
 
 pub conditions : (strings : List (List ℕ)) → Conditions strings
 conditions strings = record {
   none = λ e. rw e none-verdicts;
   unequal = λ h.
-      (some-call strings (unlike-some strings h) ∙ unlike-umis strings h, unlike-umis strings h, other-sound strings (unlike-no-family strings h));
+      (some-call strings (unlike-some strings h) ∙ unlike-umis strings h, unlike-umis strings h, other-sound strings (no-family strings (inr h)));
   single = λ t e. rw e (one-call t);
   family = λ h.
       let a = alike-umis strings (family-alike strings h) in
@@ -130,17 +112,13 @@ conditions strings = record {
       let columns = columnsOf width strings in
       low-family strings h n
       ∙ first-faulty columns k r (rw (columns-length width strings) l)
-      (λ j m. rw (columns-at width strings j (omega arith)) (before j m)) (rw (columns-at width strings k l) e);
+      (λ j m. rw (column-at width strings j (omega arith)) (before j m)) (rw (column-at width strings k l) e);
   fine = λ h n f.
       let width = length (firstOf strings) in
       low-family strings h n
       ∙ none-faulty (columnsOf width strings)
-      (λ j m. let l : j < width = rw (columns-length width strings) at m in rw (columns-at width strings j l) (f j l));
+      (λ j m. let l : j < width = rw (columns-length width strings) at m in rw (column-at width strings j l) (f j l));
 }
 
 pub room : (out : List ℕ) (f : Found) → Room out f
-unfolding roomFor
-room out f =
-    let n = length out in
-    let m = length (f .text) in
-    record { short = λ h. rw (lt-ltb n m h); enough = λ h. rw (refuted (ltb n m) (λ t. h (ltb-true n m t))) }
+room out f = record { short = room-short out f; enough = λ h. room-enough out f (omega arith) }

@@ -1,8 +1,8 @@
--- The laws of the strings of two strands, and an example, computed. Assumes nothing.
+-- The laws of the strings of two strands. Assumes nothing.
 use mathlib.Core.Path.{_≡_, refl, sym, _∙_, ap}
 use mathlib.Core.Bool.{Bool, true, false}
 use mathlib.Core.List.{List, [], _∷_, _++_, map-append}
-use Prim.Native.Nat.{ℕ, _-_}
+use Prim.Native.Nat.{ℕ, suc, _-_}
 use native.Mathlib.Omega.{arith}
 use borrow.Author.Tests.{eq-eqb}
 use lib.ListN.{length, take, length-append}
@@ -10,14 +10,18 @@ use lib.Seq.{take-append-seam, drop-append-seam}
 use Rattle.float.proofs.Cases.{test}
 use Rattle.lent_bytes.specs.Lists.{keep, isEmpty}
 use Rattle.refusals.specs.declared.Refusal.{Refusal}
-use Rattle.refusals.specs.Result.{refused, accepted}
+use Rattle.refusals.specs.declared.Verdict.{Verdict}
+use Rattle.refusals.specs.declared.Verdict.the-variants.{Sound, Refused}
+use Rattle.refusals.specs.Result.{Result, refused, accepted, judged, andThen}
+use Rattle.base_builder.specs.declared.builder.ConsensusBaseBuilder.{ConsensusBaseBuilder}
 use Rattle.simple_umi.specs.declared.caller.SimpleConsensusCaller.{SimpleConsensusCaller}
-use Rattle.simple_umi.specs.Strings.{alike, isFamily}
+use Rattle.simple_umi.specs.Strings.{firstOf, columnOf, isFamily}
 use Rattle.simple_umi.specs.Verdicts.{consensusVerdict}
-use Rattle.simple_umi.specs.Consensus.{Found, withBuilder, firstFound, found, consensusOf}
-use Rattle.simple_umi.specs.Duplex.{endsIn, strandOf, paired, duplexOf}
-use Rattle.simple_umi_laws.specs.DuplexLaws.{Strand, Duplex, pairing}
+use Rattle.simple_umi.specs.Consensus.{Found, withBuilder, builderAt, found, consensusOf}
+use Rattle.simple_umi.specs.Duplex.{FoundDuplex, endsIn, strandOf, paired, duplexOf}
+use Rattle.simple_umi_laws.specs.DuplexLaws.{Strand, Duplex, pairing, noColumn}
 use Rattle.simple_umi.proofs.Strands.{strand-kept, strand-left}
+use Rattle.simple_umi_laws.proofs.AnswerLaws.{answered, no-refusal, same-start, found-reset}
 
 -- ---- which strings a strand has
 
@@ -51,11 +55,6 @@ module _ (letter : ℕ) where
 
 -- ---- what both strands give
 
--- no strings
-none : (c : SimpleConsensusCaller) → consensusOf c [] ≡ accepted (record { text = []; hadErrors = false; builder = c .builder })
-unfolding consensusVerdict isFamily found firstFound alike
-none c = refl
-
 -- its own builder
 same-caller : (c : SimpleConsensusCaller) → withBuilder (c .builder) c ≡ c
 unfolding withBuilder
@@ -64,6 +63,27 @@ same-caller c = refl
 not-empty : {A : Type 0} (l : List A) → (l ≡ [] → ⊥) → isEmpty l ≡ false
 not-empty [] h = absurd (h refl)
 not-empty (x ∷ l) h = refl
+
+-- where a verdict does not refuse
+valueOr : {A : Type 0} → A → Result A → A
+valueOr d (refused r) = d
+valueOr d (accepted a) = a
+
+one-sound : (v : Verdict) (b : Found) (f : Found → FoundDuplex) (d : FoundDuplex) → andThen (judged v b) (λ y. accepted (f y)) ≡ accepted d → f b ≡ d
+unfolding valueOr
+one-sound (Refused r) b f d e = no-refusal e
+one-sound Sound b f d e = ap (valueOr d) e
+
+-- where neither verdict refuses
+both-sound : (v : Verdict) (a : Found) (w : Found → Verdict) (b : Found → Found) (d : FoundDuplex)
+    → andThen (judged v a) (λ x. andThen (judged (w x) (b x)) (λ y. accepted (paired x y))) ≡ accepted d → paired a (b a) ≡ d
+both-sound (Refused r) a w b d e = no-refusal e
+both-sound Sound a w b d e = one-sound (w a) (b a) (λ y. paired a y) d e
+
+-- no column leaves the builder as it was
+as-it-was : (c : SimpleConsensusCaller) (strings : List (List ℕ)) → noColumn strings → found c strings .builder ≡ c .builder
+as-it-was c strings n =
+    test (isFamily strings) (λ h. answered c strings .no-column h (n h)) (answered c strings .untouched)
 
 module _ (c : SimpleConsensusCaller) (strings : List (List ℕ)) where
   a-refused : (r : Refusal) → consensusOf c (strandOf 65 strings) ≡ refused r → duplexOf c strings ≡ refused r
@@ -91,7 +111,30 @@ module _ (c : SimpleConsensusCaller) (strings : List (List ℕ)) where
       → duplexOf c strings ≡ accepted (record { found = record { text = b .text; hadErrors = false; builder = b .builder }; hadErrorsB = b .hadErrors })
   no-a h b e =
       let a : Found = record { text = []; hadErrors = false; builder = c .builder } in
-      both a (rw h (none c)) b (rw (same-caller c) e) ∙ ap accepted (b-text a b refl)
+      both a (answered c (strandOf 65 strings) .none h) b (rw (same-caller c) e) ∙ ap accepted (b-text a b refl)
+
+  -- the builder after an accepted call
+  module _ (d : FoundDuplex) (e : duplexOf c strings ≡ accepted d) where
+    abbrev afterA : ConsensusBaseBuilder
+    afterA = found c (strandOf 65 strings) .builder
+
+    after-both : d .found .builder ≡ found (withBuilder afterA c) (strandOf 66 strings) .builder
+    unfolding duplexOf paired
+    after-both =
+        ap (λ (x : FoundDuplex). x .found .builder)
+        (sym (both-sound (consensusVerdict (strandOf 65 strings)) (found c (strandOf 65 strings))
+        (λ a. consensusVerdict (strandOf 66 strings)) (λ a. found (withBuilder (a .builder) c) (strandOf 66 strings)) d e))
+
+    b-builder : isFamily (strandOf 66 strings) ≡ true
+        → (k : ℕ) → length (firstOf (strandOf 66 strings)) ≡ suc k → d .found .builder ≡ builderAt c (columnOf (strandOf 66 strings) k)
+    b-builder h k l =
+        after-both
+        ∙ answered (withBuilder afterA c) (strandOf 66 strings) .last-column h k l
+        ∙ same-start c afterA (columnOf (strandOf 66 strings) k) (found-reset c (strandOf 65 strings))
+
+    after-a : noColumn (strandOf 66 strings) → d .found .builder ≡ afterA
+    unfolding withBuilder
+    after-a n = after-both ∙ as-it-was (withBuilder afterA c) (strandOf 66 strings) n
 
   pub duplex : Duplex c strings
   duplex = record {
@@ -100,5 +143,8 @@ module _ (c : SimpleConsensusCaller) (strings : List (List ℕ)) where
     a-string = λ a e b k h. both a e b k ∙ ap accepted (a-text a b h);
     b-string = λ a e b k h. both a e b k ∙ ap accepted (b-text a b h);
     no-a = no-a;
-    neither = λ h k. no-a h (record { text = []; hadErrors = false; builder = c .builder }) (rw k (none c));
+    neither = λ h k. no-a h (record { text = []; hadErrors = false; builder = c .builder }) (answered c (strandOf 66 strings) .none k);
+    b-builder = b-builder;
+    a-builder = λ d e n h k l. after-a d e n ∙ answered c (strandOf 65 strings) .last-column h k l;
+    same-builder = λ d e n m. after-a d e n ∙ as-it-was c (strandOf 65 strings) m;
   }

@@ -1,12 +1,14 @@
 -- What holds of the strings of two strands. Definitions only.
 use mathlib.Core.Path.{_≡_}
-use mathlib.Core.Bool.{false}
+use mathlib.Core.Bool.{true, false}
 use mathlib.Core.List.{List, [], _∷_, _++_}
-use Prim.Native.Nat.{ℕ}
+use Prim.Native.Nat.{ℕ, suc}
+use lib.ListN.{length}
 use Rattle.refusals.specs.declared.Refusal.{Refusal}
 use Rattle.refusals.specs.Result.{refused, accepted}
 use Rattle.simple_umi.specs.declared.caller.SimpleConsensusCaller.{SimpleConsensusCaller}
-use Rattle.simple_umi.specs.Consensus.{Found, withBuilder, consensusOf}
+use Rattle.simple_umi.specs.Strings.{firstOf, columnOf, isFamily}
+use Rattle.simple_umi.specs.Consensus.{Found, withBuilder, builderAt, consensusOf}
 use Rattle.simple_umi.specs.Duplex.{FoundDuplex, endsIn, strandOf, duplexOf}
 
 -- which strings a strand has
@@ -19,6 +21,10 @@ pub record Strand (letter : ℕ) : Type 0 where
 -- what both strands give
 abbrev pub pairing : Found → Found → List ℕ → FoundDuplex
 pairing a b text = record { found = record { text = text; hadErrors = a .hadErrors; builder = b .builder }; hadErrorsB = b .hadErrors }
+
+-- no family of non-empty strings, so no column is called
+abbrev pub noColumn : List (List ℕ) → Type 0
+noColumn strings = isFamily strings ≡ true → length (firstOf strings) ≡ 0
 
 pub record Duplex (c : SimpleConsensusCaller) (strings : List (List ℕ)) : Type 0 where
   -- /A is treated as `consensus` treats a set, and its refusal comes first
@@ -40,3 +46,12 @@ pub record Duplex (c : SimpleConsensusCaller) (strings : List (List ℕ)) : Type
   -- no string of either: an empty answer, no error, and the builder as it was
   pub neither : strandOf 65 strings ≡ [] → strandOf 66 strings ≡ []
       → duplexOf c strings ≡ accepted (record { found = record { text = []; hadErrors = false; builder = c .builder }; hadErrorsB = false })
+  -- the builder after an accepted call: as the last column of /B leaves it, from the caller's own builder since a column starts with a reset
+  pub b-builder : (d : FoundDuplex) → duplexOf c strings ≡ accepted d → isFamily (strandOf 66 strings) ≡ true
+      → (k : ℕ) → length (firstOf (strandOf 66 strings)) ≡ suc k → d .found .builder ≡ builderAt c (columnOf (strandOf 66 strings) k)
+  -- where /B has no column, as the last one of /A does
+  pub a-builder : (d : FoundDuplex) → duplexOf c strings ≡ accepted d → noColumn (strandOf 66 strings) → isFamily (strandOf 65 strings) ≡ true
+      → (k : ℕ) → length (firstOf (strandOf 65 strings)) ≡ suc k → d .found .builder ≡ builderAt c (columnOf (strandOf 65 strings) k)
+  -- and where neither has one, as it was
+  pub same-builder : (d : FoundDuplex) → duplexOf c strings ≡ accepted d → noColumn (strandOf 66 strings) → noColumn (strandOf 65 strings)
+      → d .found .builder ≡ c .builder

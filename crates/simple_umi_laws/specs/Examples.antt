@@ -43,10 +43,19 @@ eachGives strings text flag = gives (call strings) text flag && (gives (umis str
 abbrev pub eachRefuses : List (List ℕ) → ℕ → Bool
 eachRefuses strings n = refuses (call strings) n && (refuses (umis strings) n && refuses (consensus strings) n)
 
--- "AC" twice, as a set
+-- "AC" as a set
+abbrev pub oneString : List ℕ
+oneString = 1 ∷ 2 ∷ 65 ∷ 67 ∷ []
+
+-- "AC" twice
 abbrev pub twoStrings : List ℕ
 twoStrings = 2 ∷ 2 ∷ 65 ∷ 67 ∷ 2 ∷ 65 ∷ 67 ∷ []
 
+-- the byte 200 twice
+abbrev pub highStrings : List ℕ
+highStrings = 2 ∷ 1 ∷ 200 ∷ 1 ∷ 200 ∷ []
+
+-- each input with what is said of it
 abbrev pub claims : List Bool
 claims =
     -- "ACGT", "ACGA": ACGN, true
@@ -75,11 +84,20 @@ claims =
     ∷ eachRefuses ((45 ∷ []) ∷ (65 ∷ []) ∷ []) 9
     -- "-", "A", "+": 8
     ∷ eachRefuses ((45 ∷ []) ∷ (65 ∷ []) ∷ (43 ∷ []) ∷ []) 8
+    -- "AC" into 1 byte: 10
+    ∷ refuses (callConsensusIn defaultCaller oneString (0 ∷ [])) 10
+    ∷ refuses (consensusUmisIn oneString (0 ∷ [])) 10
+    ∷ refuses (consensusIn defaultCaller oneString (0 ∷ [])) 10
     -- "AC" twice into 1 byte: 10, and into 2 bytes AC, false
     ∷ refuses (callConsensusIn defaultCaller twoStrings (0 ∷ [])) 10
     ∷ refuses (consensusUmisIn twoStrings (0 ∷ [])) 10
     ∷ refuses (consensusIn defaultCaller twoStrings (0 ∷ [])) 10
     ∷ gives (consensusIn defaultCaller twoStrings (0 ∷ 0 ∷ [])) (65 ∷ 67 ∷ []) false
+    -- the bytes of no strings and of the byte 200 twice: 5 and 7
+    ∷ refuses (callConsensusIn defaultCaller (0 ∷ []) []) 5
+    ∷ refuses (callConsensusIn defaultCaller highStrings (0 ∷ [])) 7
+    ∷ refuses (consensusUmisIn highStrings (0 ∷ [])) 7
+    ∷ refuses (consensusIn defaultCaller highStrings (0 ∷ [])) 7
     -- the bytes of a set: 65,537 zeros are too many, and of 65,536 all but the first are left over
     ∷ refuses (readSet (replicate 65537 0)) 1
     ∷ refuses (readSet (replicate 65536 0)) 2

@@ -1,7 +1,7 @@
 -- What holds of every list of strings. Definitions only.
 use mathlib.Core.Path.{_≡_}
 use mathlib.Core.Bool.{Bool, true, false, _||_}
-use mathlib.Core.List.{List, [], _∷_}
+use mathlib.Core.List.{List, [], _∷_, _++_}
 use Prim.Native.Nat.{ℕ, suc, _<_}
 use lib.Dec.{eqb}
 use lib.ListN.{length}
@@ -10,13 +10,17 @@ use Rattle.refusals.specs.declared.Refusal.{Refusal}
 use Rattle.refusals.specs.declared.Refusal.the-variants.{NoStrings, LengthsDiffer, NotAscii, BufferTooShort}
 use Rattle.refusals.specs.declared.Verdict.the-variants.{Sound, Refused}
 use Rattle.refusals.specs.Result.{refused, accepted}
+use Rattle.rate_tables.specs.Adjusted.{adjustedTables}
+use Rattle.base_builder.specs.declared.builder.ConsensusBaseBuilder.{ConsensusBaseBuilder}
 use Rattle.base_builder_history.specs.Demand1.{isBase}
+use Rattle.base_builder_history.specs.History.{Event, run}
 use Rattle.umi_column.specs.Dna.{isDnaBase}
 use Rattle.umi_column.specs.Verdicts.{verdictOf}
+use Rattle.umi_column.specs.Calls.{columnEvents}
 use Rattle.simple_umi.specs.declared.caller.SimpleConsensusCaller.{SimpleConsensusCaller}
-use Rattle.simple_umi.specs.Strings.{firstOf, columnOf, alike, isFamily, isHigh, differsFrom}
+use Rattle.simple_umi.specs.Strings.{firstOf, columnOf, columnsOf, alike, isFamily, isHigh, differsFrom}
 use Rattle.simple_umi.specs.Verdicts.{consensusVerdict, umisVerdict, callVerdict}
-use Rattle.simple_umi.specs.Consensus.{Found, defaultCaller, builderAt, found, consensusOf, umisOf, callConsensusOf}
+use Rattle.simple_umi.specs.Consensus.{Found, withBuilder, builderAt, found, consensusOf, umisOf, callConsensusOf}
 use Rattle.simple_umi.specs.Answers.{roomFor}
 
 -- ---- what is refused
@@ -61,6 +65,15 @@ pub record Room (out : List ℕ) (f : Found) : Type 0 where
 abbrev pub isBaseOrN : ℕ → Bool
 isBaseOrN x = isBase x || eqb x 78
 
+-- what happens to the builder at columns, one after another
+abbrev pub allEvents : ℕ → List (List ℕ) → List Event
+allEvents q [] = []
+allEvents q (column ∷ columns) = columnEvents q column ++ allEvents q columns
+
+-- the caller's builder after them
+abbrev pub builderAfter : SimpleConsensusCaller → List (List ℕ) → ConsensusBaseBuilder
+builderAfter c columns = run (adjustedTables (c .«error_rate_post_labeling» .0)) (allEvents (c .«q_error» .0) columns) (c .builder)
+
 pub record Answered (c : SimpleConsensusCaller) (strings : List (List ℕ)) : Type 0 where
   -- the answer is as long as the first string, and empty where there is none
   pub as-long : length (found c strings .text) ≡ length (firstOf strings)
@@ -71,6 +84,11 @@ pub record Answered (c : SimpleConsensusCaller) (strings : List (List ℕ)) : Ty
       → (k : ℕ) → k < length (firstOf strings) → isDnaBase (byteAt (firstOf strings) k) ≡ false → byteAt (found c strings .text) k ≡ byteAt (firstOf strings) k
   -- the flag says whether a string differs from the answer
   pub flag : found c strings .hadErrors ≡ any (differsFrom (found c strings .text)) strings
+  -- lower case gives upper case, by `letter`, and then the flag is true: so it is of any byte of any string that is none of A, C, G, T and N where `letter` applies
+  pub lower-case : isFamily strings ≡ true
+      → (before after : List (List ℕ)) (t : List ℕ) → strings ≡ before ++ (t ∷ after)
+      → (k : ℕ) → k < length (firstOf strings) → isDnaBase (byteAt (firstOf strings) k) ≡ true → isBaseOrN (byteAt t k) ≡ false
+      → found c strings .hadErrors ≡ true
   -- no strings: an empty answer, no error
   pub none : strings ≡ [] → consensusOf c strings ≡ accepted (record { text = []; hadErrors = false; builder = c .builder })
   -- one string comes back unchanged, whatever its bytes, from each of the three
@@ -79,13 +97,17 @@ pub record Answered (c : SimpleConsensusCaller) (strings : List (List ℕ)) : Ty
       (consensusOf c strings ≡ accepted f) × (umisOf c strings ≡ accepted f) × (callConsensusOf c strings ≡ accepted f)
   -- unequal lengths give the first string, and an error
   pub unequal : alike strings ≡ false → consensusOf c strings ≡ accepted (record { text = firstOf strings; hadErrors = true; builder = c .builder })
-  -- the builder stays as it was but for a family that is not empty, whose last column leaves it
+  -- the builder stays as it was but for a family of non-empty strings, whose last column leaves it
   pub untouched : isFamily strings ≡ false → found c strings .builder ≡ c .builder
   pub no-column : isFamily strings ≡ true → length (firstOf strings) ≡ 0 → found c strings .builder ≡ c .builder
   pub last-column : isFamily strings ≡ true
       → (k : ℕ) → length (firstOf strings) ≡ suc k → found c strings .builder ≡ builderAt c (columnOf strings k)
+  -- which is what all columns leave, one after another on one builder, as the source runs them
+  pub all-columns : isFamily strings ≡ true → found c strings .builder ≡ builderAfter c (columnsOf (length (firstOf strings)) strings)
+  -- since a column starts with a reset, which keeps the rule and the rate alone: what it leaves does not depend on the columns before it
+  pub any-start : (before : List (List ℕ)) (column : List ℕ) → builderAt (withBuilder (builderAfter c before) c) column ≡ builderAt c column
   -- where `call_consensus` accepts, `consensus` gives the same
   pub agree : (f : Found) → callConsensusOf c strings ≡ accepted f → consensusOf c strings ≡ accepted f
-  -- `consensus_umis` is `call_consensus` at the defaults, but for no strings
-  pub umis : (strings ≡ [] → ⊥) → umisOf defaultCaller strings ≡ callConsensusOf defaultCaller strings
-  pub umis-none : strings ≡ [] → umisOf defaultCaller strings ≡ accepted (record { text = []; hadErrors = false; builder = defaultCaller .builder })
+  -- `consensus_umis`, which is `umisOf` at the defaults, is `call_consensus` but for no strings
+  pub umis : (strings ≡ [] → ⊥) → umisOf c strings ≡ callConsensusOf c strings
+  pub umis-none : strings ≡ [] → umisOf c strings ≡ accepted (record { text = []; hadErrors = false; builder = c .builder })

@@ -11,7 +11,7 @@ use Rattle.float.proofs.Cases.{test, clash, both, and-false}
 use Rattle.lent_bytes.specs.Lists.{any, every, byteAt}
 use Rattle.refusals.specs.declared.Refusal.the-variants.{UnlikeFirst, Mixed}
 use Rattle.refusals.specs.declared.Verdict.the-variants.{Sound, Refused}
-use Rattle.umi_column.specs.Dna.{toAsciiUppercase, isDnaBase}
+use Rattle.umi_column.specs.Dna.{isDnaBase}
 use Rattle.umi_column.specs.Verdicts.{isUnlike, isMixed, verdictOf}
 use Rattle.lent_bytes.proofs.Tests.{none-by-none, none-by-every}
 
@@ -75,11 +75,3 @@ all-same-sound x (y ∷ ys) e h =
     no-dna-sound (y ∷ ys)
     (none-by-every is (isUnlike y) (λ z k. rw (eq-eqb z y (eqb-true z x k ∙ sym first), and-false)) (y ∷ ys) h)
     (none-by-every is isDnaBase (λ z k. ap isDnaBase (eqb-true z x k) ∙ e) (y ∷ ys) h)
-
--- "A" "-" gives 8, "-" "A" gives 9, and "-" "A" "+" gives 8
-pub verdict-examples :
-    (verdictOf (65 ∷ 45 ∷ []) ≡ Refused UnlikeFirst) ×
-    (verdictOf (45 ∷ 65 ∷ []) ≡ Refused Mixed) ×
-    (verdictOf (45 ∷ 65 ∷ 43 ∷ []) ≡ Refused UnlikeFirst)
-unfolding verdictOf isMixed isDnaBase toAsciiUppercase
-verdict-examples = (refl, refl, refl)

@@ -28,11 +28,12 @@ columnByte pre column after =
     if isDnaBase (byteAt column 0) then callOf (gapTables pre) after .base
     else byteAt column 0
 
--- the same two as the code has them: each byte added with the two logarithms of the quality, and the base of the lane that the rule names
+-- the same two as the code has them: each byte added with the two logarithms of the quality
 unfoldable pub addedAll : Float → Float → List ℕ → ConsensusBaseBuilder → ConsensusBaseBuilder
 addedAll correct error [] b = b
 addedAll correct error (x ∷ xs) b = addedAll correct error xs (addedBy correct error x b)
 
+-- and the base of the lane that the rule names
 unfoldable pub namedByte : ConsensusBaseBuilder → ℕ → ℕ
 namedByte after first =
     if isDnaBase first then baseOf (ruled after)

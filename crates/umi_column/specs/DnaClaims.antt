@@ -1,9 +1,9 @@
 -- Which bytes count as DNA, in claims that are computed. Definitions only.
 use Prim.Native.Nat.{ℕ}
-use mathlib.Core.Bool.{Bool, not, Bool·beq}
-use mathlib.Core.List.{List, [], _∷_, map}
+use mathlib.Core.Bool.{Bool, Bool·beq}
+use mathlib.Core.List.{List, [], _∷_}
 use lib.Dec.{eqb}
-use Rattle.float.specs.Claims.{all, every}
+use Rattle.float.specs.Claims.{every}
 use Rattle.lent_bytes.specs.Lists.{any}
 use Rattle.umi_column.specs.Dna.{isDnaBase}
 
@@ -19,13 +19,6 @@ isDnaLetter x = any (λ b. eqb x b) dnaLetters
 unfoldable pub dnaAt : ℕ → Bool
 dnaAt x = Bool·beq (isDnaBase x) (isDnaLetter x)
 
-abbrev pub dnaClaims : List Bool
-dnaClaims =
-    isDnaBase 78  -- N
-    ∷ isDnaBase 110  -- n
-    ∷ all (map isDnaBase dnaLetters)
-    ∷ not (isDnaBase 45)  -- the hyphen
-    ∷ not (isDnaBase 43)  -- the plus sign
-    ∷ not (isDnaBase 200)
-    ∷ every dnaAt 0 256  -- and so for every byte
-    ∷ []
+-- so it is at each of the 256 bytes
+abbrev pub dnaClaims : Bool
+dnaClaims = every dnaAt 0 256

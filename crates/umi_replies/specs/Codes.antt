@@ -14,6 +14,7 @@ use Rattle.simple_umi.specs.declared.answers.DuplexAnswer.the-variants as duple
 use Rattle.simple_umi.specs.Consensus.{defaultCaller}
 use Rattle.simple_umi.specs.Answers.{callConsensusIn, consensusIn, consensusUmisIn, duplexIn, answerOf, flaggedOf, duplexAnswerOf, pairFound, bufferAfter}
 
+-- 1 for true
 abbrev pub bit : Bool → ℕ
 bit true = 1
 bit false = 0

@@ -27,6 +27,7 @@ sentReply code (accepted f) out =
     if leb (length (recordOf f)) (length out) then code
     else 10
 
+-- what the buffer holds afterwards
 abbrev pub sentBuffer : Result Found → List ℕ → List ℕ
 sentBuffer (refused r) out = out
 sentBuffer (accepted f) out = written (recordOf f) out
@@ -58,6 +59,7 @@ callerReply which c set out =
     else if eqb which 3 then duplexReply c set out
     else 0
 
+-- what the buffer holds afterwards
 unfoldable pub callerBuffer : ℕ → SimpleConsensusCaller → List ℕ → List ℕ → List ℕ
 callerBuffer which c set out =
     if eqb which 0 then callBuffer c set out

@@ -1,4 +1,4 @@
-// The functions at the defaults.
+// Replies in one number, and the functions at the defaults.
 ghost use mathlib.Core.Path.{_≡_};
 ghost use Prim.Native.Nat.{_≤_};
 ghost use Rattle.simple_umi.specs.Answers.{answerLength, flaggedLength, duplexLength};

@@ -23,7 +23,7 @@ struct Set {
     bytes: Vec<u8>,
 }
 
-/// Sets whose time is taken: the strings of the Rust are made before, and so is its caller.
+/// Sets whose time is taken: the strings of the Rust are made before, and so is its wrapper.
 struct Timed {
     name: (&'static str, &'static str),
     sets: Vec<Set>,

@@ -1,5 +1,5 @@
 //! Which condition of document 01's table a string set meets. Written from the table, so that it says
-//! what is to be refused where the Rust panics, and where no `String` holds the bytes.
+//! what is to be refused where the Rust panics, and where the bytes may be no `String`.
 
 use super::function::Function;
 

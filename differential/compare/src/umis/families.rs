@@ -16,7 +16,7 @@ pub struct Shape {
 /// The largest there is.
 pub const FULL: Shape = Shape { strings: 255, length: 255 };
 
-/// Beside the limits most of the time.
+/// Small most often, and 254 or 255 one time in eight.
 pub fn shape(random: &mut Random) -> Shape {
     Shape { strings: size(random), length: size(random) }
 }

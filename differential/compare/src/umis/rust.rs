@@ -55,8 +55,8 @@ fn answered(function: Function, rates: Rates, umis: &[String]) -> Given {
 }
 
 /// What is answered to strings of which one has a byte of 128 or more, and which meet no condition.
-/// No `String` holds such bytes as they are, but such a string can only come back unchanged: alone, or
-/// as the first of unequally long ones. The Rust answers for the other strand.
+/// They make a `String` only where they are UTF-8, but such a string can only come back unchanged: alone,
+/// or as the first of unequally long ones. The Rust answers for the other strand.
 pub fn beyond_strings(function: Function, rates: Rates, strings: &[&[u8]]) -> Given {
     let mut caller = umi_caller(rates);
     if function == Function::ConsensusDuplex {

@@ -37,11 +37,11 @@ call-columns-requires c κs = search needs
 array-share-prefix-text : tie.Need-array-share-prefix-text
 array-share-prefix-text c = taken-inside _ (c .before .before .call-columns .result .text) (size (c .before .before))
 
-slice-aggregate-any-unlike : tie.Need-slice-aggregate-any-unlike
-slice-aggregate-any-unlike c = sym (size (c .before .before .before))
+slice-aggregate-any-differs : tie.Need-slice-aggregate-any-differs
+slice-aggregate-any-differs c = sym (size (c .before .before .before))
 
-any-unlike-requires : tie.Need-any-unlike-requires
-any-unlike-requires c κs =
+any-differs-requires : tie.Need-any-differs-requires
+any-differs-requires c κs =
     let s = c .before .before .before .before .before .before .before .before .before .before .before .before in
     let e = sym (size (c .before .before .before)) in (
       s .pre .1,
@@ -69,7 +69,7 @@ returns-2 c =
     let v = t .before .before .family-verdict in (
       family-found (a .caller) (a .width) (a .set .now) ps (v .result) (v .ensures) (t .enum-told .given .1)
           (e .result) (e .ensures .0) (e .ensures .1) (take (a .width) (k .result .text)) (k .ensures .0)
-          (c .any-unlike .result) (c .any-unlike .ensures) (k .result .builder) (k .ensures .1),
+          (c .any-differs .result) (c .any-differs .ensures) (k .result .builder) (k .ensures .1),
       s .pre .2,
     )
 
@@ -84,7 +84,7 @@ family-spec =
     adjusted-entry-requires
     call-columns-requires
     array-share-prefix-text
-    slice-aggregate-any-unlike
-    any-unlike-requires
+    slice-aggregate-any-differs
+    any-differs-requires
     returns
     returns-2)

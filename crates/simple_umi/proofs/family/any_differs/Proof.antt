@@ -1,4 +1,4 @@
--- `any_unlike`: what the strings left say is what all of them say, at each turn. Assumes nothing.
+-- `any_differs`: what the strings left say is what all of them say, at each turn. Assumes nothing.
 use mathlib.Core.Bool.{not}
 use mathlib.Core.Path.{_≡_, refl, _∙_, ap}
 use Prim.Native.Nat.{_+_, _-_, _≤_}
@@ -9,8 +9,8 @@ use Rattle.lent_bytes.specs.Lists.{any, byteAt}
 use Rattle.simple_umi.specs.Strings.{differsFrom}
 use Rattle.simple_umi.specs.Places.{rowsAt}
 use Rattle.simple_umi.proofs.Rows.{row-told, given-more, given-found, given-none}
-use Rattle.simple_umi.proofs.family.any_unlike.Statement.{statement}
-use Rattle.simple_umi.proofs.family.any_unlike.Tie as tie
+use Rattle.simple_umi.proofs.family.any_differs.Statement.{statement}
+use Rattle.simple_umi.proofs.family.any_differs.Tie as tie
 
 abbrev Inv-loop : tie.InvT-loop
 Inv-loop set places count text k₀ k =
@@ -77,8 +77,8 @@ returns-2 c =
     let a = o .before .before .before .args in
     given-none _ (a .places .now) (a .count) (o .before .before .before .pre .2 .0) _ (o .loop .k) (omega arith) ∙ o .loop .inv .1
 
-pub any-unlike-spec : {M : Type 1} → statement M
-any-unlike-spec =
+pub any-differs-spec : {M : Type 1} → statement M
+any-differs-spec =
     tie.close
     (tie.spec
     Inv-loop
