@@ -5,12 +5,12 @@ use std::panic::{AssertUnwindSafe, catch_unwind, resume_unwind, set_hook, take_h
 
 use super::condition::{LENGTHS_DIFFER, MIXED, NO_STRINGS, UNLIKE_FIRST};
 
-/// How each begins, and the number of its condition.
-const MESSAGES: [(&str, u64); 4] = [
-    ("Can't call consensus on an empty set of sequences!", NO_STRINGS),
-    ("Sequences must all have the same length.", LENGTHS_DIFFER),
-    ("Sequences must have character '", UNLIKE_FIRST),
-    ("Sequences contained a mix of DNA and non-DNA characters", MIXED),
+/// Words that only the message of this condition has.
+const WORDS: [(&str, u64); 4] = [
+    ("empty set", NO_STRINGS),
+    ("same length", LENGTHS_DIFFER),
+    ("at position", UNLIKE_FIRST),
+    ("at offset", MIXED),
 ];
 
 /// The answer of a call, or the number of the condition for which it panics. Any other panic goes on.
@@ -37,5 +37,5 @@ fn number(payload: &(dyn Any + Send)) -> Option<u64> {
         Some(message) => message.as_str(),
         None => payload.downcast_ref::<&str>()?,
     };
-    MESSAGES.iter().find(|(start, _)| message.starts_with(start)).map(|(_, number)| *number)
+    WORDS.iter().find(|(words, _)| message.contains(words)).map(|(_, number)| *number)
 }
