@@ -37,7 +37,7 @@ test: ## everything: layout, all proofs from nothing, comparison beside the Rust
 	rt fmt --check
 	@log=$$(mktemp); trap 'rm -f "$$log"' EXIT; \
 	rt ci 2>&1 | tee "$$log"; \
-	$(MAKE) --no-print-directory differential ARGUMENTS=300000 HISTORIES=200000 BUILDERS=5000 SETS=2000; \
+	$(MAKE) --no-print-directory differential ARGUMENTS=300000 HISTORIES=200000 BUILDERS=5000 SETS=5000; \
 	tail -n 1 "$$log"
 
 check: ## prove what changed, and run the programs
