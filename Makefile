@@ -5,12 +5,16 @@ SHELL := bash
 .SHELLFLAGS := -eu -o pipefail -c
 
 # How many arguments of each range `make differential` compares, how many histories of the builder,
-# how many builders of any state, and how many sets of UMI strings are drawn (as many again for other
-# rates).
+# how many builders of any state, how many sets of UMI strings are drawn (as many again for other
+# rates), and how many column files.
 ARGUMENTS ?= 10000000
 HISTORIES ?= 1000000
 BUILDERS ?= 20000
 SETS ?= 20000
+FILES ?= 20000
+
+# The file that `make run` lists.
+SAMPLE ?= samples/document.col
 
 # Where `make vectors` writes the stored list of the Rust's answers.
 VECTORS ?= crates/replay/stdin
@@ -25,7 +29,7 @@ SKIPPED = 77
 unexport EXPORTS_FOLDER
 
 .DEFAULT_GOAL := help
-.PHONY: help test check library differential vectors bench fmt clean
+.PHONY: help run test check library differential vectors bench fmt clean
 
 help: ## list the targets
 	@sed -n 's/^\([a-z]*\):[^#]*## \(.*\)/\1\t\2/p' $(MAKEFILE_LIST) | expand -t 14
@@ -40,6 +44,12 @@ test: ## everything: layout, all proofs from nothing, comparison beside the Rust
 	$(MAKE) --no-print-directory differential ARGUMENTS=300000 HISTORIES=200000 BUILDERS=5000 SETS=5000; \
 	tail -n 1 "$$log"
 
+# What rt says is shown only where something fails, so that the listing stands alone.
+run: ## prove and build the listing program, and list a file (SAMPLE=samples/library.col, a larger one)
+	@log=$$(mktemp); trap 'rm -f "$$log"' EXIT; \
+	rt check listing >"$$log" 2>&1 || { cat "$$log"; exit 1; }
+	@target/bin/listing < $(SAMPLE)
+
 check: ## prove what changed, and run the programs
 	rt check
 
@@ -52,7 +62,8 @@ differential: library ## compare with the Rust, bit for bit, where the Rust can 
 		differential/run tables && \
 		differential/run histories --histories $(HISTORIES) && \
 		differential/run builders --builders $(BUILDERS) && \
-		differential/run umis --sets $(SETS) || [ $$? -eq $(SKIPPED) ]
+		differential/run umis --sets $(SETS) && \
+		differential/run files --files $(FILES) || [ $$? -eq $(SKIPPED) ]
 
 vectors: library ## write the stored list of the Rust's answers anew (VECTORS=FILE)
 	differential/run vectors $(VECTORS)

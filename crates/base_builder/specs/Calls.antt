@@ -1,11 +1,11 @@
 -- The call of a builder: a shortcut where one replies, and else the long calculation. Definitions only.
 use lib.Dec.{eqb}
 use Rattle.float.specs.Ops.{if_then_else_}
-use Rattle.rate_tables.specs.declared.gaps.UnanimousGapTables.{UnanimousGapTables}
+use Rattle.gap_tables.specs.declared.gaps.UnanimousGapTables.{UnanimousGapTables}
 use Rattle.lane_calls.specs.declared.call.Call.{Call}
 use Rattle.lane_calls.specs.declared.call.Reply.{Reply}
 use Rattle.lane_calls.specs.Calls.{noCall, repliedOr}
-use Rattle.lane_calls.specs.Unanimous.{unanimousReply}
+use Rattle.unanimous_shortcut.specs.Unanimous.{unanimousReply}
 use Rattle.lane_calls.specs.Multibase.{multibaseReply}
 use Rattle.lane_calls.specs.Full.{fullCall}
 use Rattle.base_builder.specs.declared.builder.ConsensusBaseBuilder.{ConsensusBaseBuilder}

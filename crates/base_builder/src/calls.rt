@@ -1,12 +1,12 @@
 // The call of a position: a shortcut where one replies, and else the long calculation.
 ghost use mathlib.Core.Path.{_≡_};
 ghost use Rattle.lane_calls.specs.Calls.{repliedOr};
-ghost use Rattle.lane_calls.specs.Unanimous.{tablesOf};
+ghost use Rattle.unanimous_shortcut.specs.Unanimous.{tablesOf};
 ghost use Rattle.base_builder.specs.Calls.{unanimousOf, multibaseOf, callFullOf, longWay, callOf};
 use crate::builder::ConsensusBaseBuilder;
+use gap_tables::UnanimousGapTables;
 use lane_calls::Call;
 use lane_calls::Reply;
-use rate_tables::UnanimousGapTables;
 
 impl ConsensusBaseBuilder {
     // The shortcut where one base alone was observed. The tables are copied: a loop takes the form
@@ -63,7 +63,14 @@ pub fn try_unanimous_fast_path_with(
     let likelihoods = builder.likelihoods;
     let observations = builder.observations;
     let rule = builder.tie_rule;
-    lane_calls::try_unanimous_fast_path(likelihoods, observations, rule, thresholds, cerr_min, cap)
+    unanimous_shortcut::try_unanimous_fast_path(
+        likelihoods,
+        observations,
+        rule,
+        thresholds,
+        cerr_min,
+        cap,
+    )
 }
 
 // Where the first shortcut does not reply.

@@ -8,13 +8,13 @@ use lib.Dec.{T, eqb, ltb}
 use borrow.Author.Tests.{le-leb, ltb-true}
 use Rattle.float.proofs.Cases.{both, choice}
 use Rattle.phred.proofs.Levels.{Level}
-use Rattle.rate_tables.specs.Gaps.{gapTables}
+use Rattle.gap_tables.specs.Gaps.{gapTables}
 use Rattle.tie_rules.specs.Lanes.{noLane, baseOf}
 use Rattle.lane_calls.specs.declared.call.Call.{Call}
 use Rattle.lane_calls.specs.declared.call.Reply.{Reply}
 use Rattle.lane_calls.specs.declared.call.Reply.the-variants.{Replied, Deferred}
 use Rattle.lane_calls.specs.Calls.{noCall, repliedOr}
-use Rattle.lane_calls.specs.Unanimous.{soleLane}
+use Rattle.unanimous_shortcut.specs.Unanimous.{soleLane}
 use Rattle.base_builder.specs.declared.builder.ConsensusBaseBuilder.{ConsensusBaseBuilder}
 use Rattle.base_builder.specs.Builder.{contributionsOf}
 use Rattle.base_builder.specs.Calls.{unanimousOf, multibaseOf, callFullOf, longWay, callOf}

@@ -1,7 +1,7 @@
 -- Demand 3, whole. Assumes nothing.
 use mathlib.Core.List.{[]}
 use Rattle.rate_tables.specs.Adjusted.{adjustedTables}
-use Rattle.rate_tables.proofs.Demand3.{thresholds-of-a-rate}
+use Rattle.gap_tables.proofs.Demand3.{thresholds-of-a-rate}
 use Rattle.base_builder_history.specs.History.{after}
 use Rattle.base_builder_history.specs.Counted.{countedSince}
 use Rattle.base_builder_history.specs.Demand3.{Demand3}

@@ -14,18 +14,18 @@ use Rattle.float.proofs.Cases.{both, choice, clash}
 use Rattle.float.proofs.Order.{lt-trans, lt-le}
 use Rattle.phred.specs.Phred.{phredToLnErrorProb}
 use Rattle.phred.proofs.Levels.{Level, levels}
-use Rattle.rate_tables.specs.declared.gaps.UnanimousGapTables.{UnanimousGapTables}
-use Rattle.rate_tables.specs.Thresholds.{gap0, threshold, thresholdWith}
-use Rattle.rate_tables.specs.Gaps.{unanimousQualityFromGap, thresholdAt, capOf, gapTables}
+use Rattle.gap_tables.specs.declared.gaps.UnanimousGapTables.{UnanimousGapTables}
+use Rattle.gap_tables.specs.Thresholds.{gap0, threshold, thresholdWith}
+use Rattle.gap_tables.specs.Gaps.{unanimousQualityFromGap, thresholdAt, capOf, gapTables}
 use Rattle.rate_tables.proofs.Filled.{level-at}
-use Rattle.rate_tables.proofs.Demand3.{thresholds-of-a-rate}
+use Rattle.gap_tables.proofs.Demand3.{thresholds-of-a-rate}
 use Rattle.tie_rules.specs.Lanes.{baseOf}
 use Rattle.lane_calls.specs.declared.call.Reply.{Reply}
 use Rattle.lane_calls.specs.declared.call.Reply.the-variants.{Replied, Deferred}
 use Rattle.lane_calls.specs.Calls.{called, outside}
-use Rattle.lane_calls.specs.Search.{entry, partitionPoint}
-use Rattle.lane_calls.proofs.PartitionPoint.{point-above, point-below}
-use Rattle.lane_calls.specs.Unanimous.{leads, clearsCap, clearsLower, clearsUpper, capReply, bracketReply, gapReply}
+use Rattle.unanimous_shortcut.specs.Search.{entry, partitionPoint}
+use Rattle.unanimous_shortcut.proofs.PartitionPoint.{point-above, point-below}
+use Rattle.unanimous_shortcut.specs.Unanimous.{leads, clearsCap, clearsLower, clearsUpper, capReply, bracketReply, gapReply}
 
 -- a reply names lane i, with a quality of 2 to 93
 abbrev pub Names : ℕ → Reply → Type 0

@@ -9,14 +9,14 @@ use Rattle.float.specs.Ops.{_⊕_, _⊖_}
 use Rattle.float.proofs.Cases.{both, choice, clash}
 use Rattle.phred.specs.Phred.{lnProbToPhred}
 use Rattle.phred.proofs.Levels.{Level, levels}
-use Rattle.rate_tables.specs.Gaps.{gapTables}
+use Rattle.gap_tables.specs.Gaps.{gapTables}
 use Rattle.tie_rules.specs.Lanes.{lane, noLane, baseOf}
 use Rattle.tie_rules.specs.Ties.{untied, noneAbove}
 use Rattle.lane_calls.specs.declared.call.Call.{Call}
 use Rattle.lane_calls.specs.declared.call.Reply.{Reply}
 use Rattle.lane_calls.specs.declared.call.Reply.the-variants.{Replied, Deferred}
 use Rattle.lane_calls.specs.Calls.{called, noCall}
-use Rattle.lane_calls.specs.Unanimous.{leads, soleLane, gapReply, unanimousReply}
+use Rattle.unanimous_shortcut.specs.Unanimous.{leads, soleLane, gapReply, unanimousReply}
 use Rattle.lane_calls.specs.Multibase.{restBelow, magnitudeBelow, finalError, deltaOf, stableReply, restReply, multibaseReply}
 use Rattle.lane_calls.specs.Full.{fullQuality, fullCall}
 use Rattle.base_builder.specs.declared.builder.ConsensusBaseBuilder.{ConsensusBaseBuilder}

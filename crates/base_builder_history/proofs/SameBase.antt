@@ -12,13 +12,13 @@ use borrow.Author.Tests.{ltb-true, eqb-true}
 use Rattle.float.specs.Ops.{_⊖_, bits, if_then_else_}
 use Rattle.float.proofs.Cases.{both, clash}
 use Rattle.rate_tables.specs.declared.adjusted.AdjustedProbabilityTables.{AdjustedProbabilityTables}
-use Rattle.rate_tables.specs.Gaps.{gapTables}
+use Rattle.gap_tables.specs.Gaps.{gapTables}
 use Rattle.tie_rules.proofs.Lanes.{below-at}
 use Rattle.tie_rules.specs.Lanes.{lane, noLane, baseOf, allBelow, counted}
 use Rattle.tie_rules.specs.Ties.{untied}
 use Rattle.lane_calls.specs.declared.call.Reply.{Reply}
 use Rattle.lane_calls.specs.declared.call.Reply.the-variants.{Replied, Deferred}
-use Rattle.lane_calls.specs.Unanimous.{firstSeen, soleLane, leads}
+use Rattle.unanimous_shortcut.specs.Unanimous.{firstSeen, soleLane, leads}
 use Rattle.base_builder.specs.declared.builder.ConsensusBaseBuilder.{ConsensusBaseBuilder}
 use Rattle.base_builder.specs.Calls.{unanimousOf, multibaseOf, callFullOf}
 use Rattle.base_builder_history.specs.Counted.{Observation}

@@ -9,7 +9,7 @@ use Rattle.float.specs.Methods.{absOf, floorOf}
 use Rattle.float.specs.Claims.{all}
 use Rattle.phred.specs.Phred.{lnZero, phredToLnErrorProb, lnProbToPhred}
 use Rattle.rate_tables.specs.declared.adjusted.AdjustedProbabilityTables.{AdjustedProbabilityTables}
-use Rattle.rate_tables.specs.declared.gaps.UnanimousGapTables.{UnanimousGapTables}
+use Rattle.gap_tables.specs.declared.gaps.UnanimousGapTables.{UnanimousGapTables}
 use Rattle.tie_rules.specs.declared.tie_rule.TieRule.the-variants.{UlpRelative, FgbioCompat}
 use Rattle.tie_rules.specs.Lanes.{baseOf, laneOfByte, allBelow, counted}
 use Rattle.tie_rules.specs.Ties.{fgbioTie, nearPatterns, ulpTie, tiesWith, untied, fgbioStep, ulpStep, scan, fgbioUniqueMaxIndex, uniqueMaxIndex, notMinusInfinity, uniqueMaxIndexWith}

@@ -5,8 +5,8 @@ use Prim.Native.Nat.{ℕ, _≤_}
 use lib.ListN.{getD}
 use lib.Ieee.{nan}
 use Rattle.phred.specs.Phred.{phredToLnErrorProb}
-use Rattle.rate_tables.specs.Thresholds.{Thresholds}
-use Rattle.rate_tables.specs.Gaps.{unanimousQualityFromGap, thresholdAt, gapTables}
+use Rattle.gap_tables.specs.Thresholds.{Thresholds}
+use Rattle.gap_tables.specs.Gaps.{unanimousQualityFromGap, thresholdAt, gapTables}
 use Rattle.tie_rules.specs.declared.tie_rule.TieRule.{TieRule}
 use Rattle.lane_calls.specs.declared.call.Call.{Call}
 use Rattle.lane_calls.specs.declared.call.Reply.{Reply}

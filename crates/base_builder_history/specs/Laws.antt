@@ -3,7 +3,7 @@ use mathlib.Core.Path.{_≡_}
 use mathlib.Core.List.{List, [], _∷_}
 use Prim.Native.Nat.{ℕ, _≤_, _<_}
 use Rattle.rate_tables.specs.Adjusted.{adjustedTables}
-use Rattle.rate_tables.specs.Gaps.{gapTables}
+use Rattle.gap_tables.specs.Gaps.{gapTables}
 use Rattle.tie_rules.specs.declared.tie_rule.TieRule.{TieRule}
 use Rattle.tie_rules.specs.Lanes.{noLane, baseOf, counted}
 use Rattle.tie_rules.specs.Ties.{uniqueMaxIndexWith}

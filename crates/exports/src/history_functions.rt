@@ -4,7 +4,7 @@ ghost use Rattle.lent_bytes.specs.Buffer.{written};
 ghost use Rattle.history_script.specs.Bytes.{replied};
 ghost use Rattle.history_script.specs.Runs.{historyBytes};
 ghost use Rattle.history_script.specs.State.{builderScriptBytes};
-ghost use Rattle.history_script.specs.Times.{timesOf};
+ghost use Rattle.script_times.specs.Times.{timesOf};
 use phred::PhredScore;
 
 // On a new builder of two rates.
@@ -49,5 +49,5 @@ pub extern "C" fn consensus_history_times(
 ) -> u64
     ensures { λ r. ⌜ r ≡ timesOf pre post rule (now (script .entry)) times ⌝ }
 {
-    history_script::times(PhredScore(pre), PhredScore(post), rule, script, times)
+    script_times::times(PhredScore(pre), PhredScore(post), rule, script, times)
 }

@@ -7,11 +7,11 @@ use native.Mathlib.Omega.{arith}
 use borrow.Author.Tests.{le-leb, lt-leb}
 use lib.ListN.{length}
 use Rattle.rate_tables.specs.Adjusted.{adjustedTables}
-use Rattle.rate_tables.specs.Gaps.{gapTables}
+use Rattle.gap_tables.specs.Gaps.{gapTables}
 use Rattle.base_builder.specs.declared.builder.ConsensusBaseBuilder.{ConsensusBaseBuilder}
 use Rattle.lent_bytes.specs.Buffer.{written}
 use Rattle.history_script.specs.Bytes.{replied}
-use Rattle.history_script.specs.Script.{items, isScript}
+use Rattle.script_items.specs.Script.{items, isScript}
 use Rattle.history_script.specs.Runs.{reports, startOf, scriptBytes}
 
 module _ (bs out : List ℕ) where

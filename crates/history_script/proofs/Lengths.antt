@@ -6,15 +6,15 @@ use native.Mathlib.Omega.{arith}
 use lib.ListN.{length, length-append}
 use lib.Ieee.{Float, binary64, toBits}
 use Rattle.rate_tables.specs.declared.adjusted.AdjustedProbabilityTables.{AdjustedProbabilityTables}
-use Rattle.rate_tables.specs.declared.gaps.UnanimousGapTables.{UnanimousGapTables}
+use Rattle.gap_tables.specs.declared.gaps.UnanimousGapTables.{UnanimousGapTables}
 use Rattle.lane_calls.specs.declared.call.Reply.{Reply}
 use Rattle.lane_calls.specs.declared.call.Reply.the-variants.{Replied, Deferred}
 use Rattle.tie_rules.specs.Lanes.{lane, counted}
 use Rattle.base_builder.specs.declared.builder.ConsensusBaseBuilder.{ConsensusBaseBuilder}
 use Rattle.base_builder.specs.Calls.{unanimousOf, multibaseOf}
-use Rattle.history_script.specs.declared.script.Progress.{Progress}
+use Rattle.script_items.specs.declared.script.Progress.{Progress}
 use Rattle.history_script.specs.Bytes.{bytesOf}
-use Rattle.history_script.specs.Script.{Item, event, question, questions, passed}
+use Rattle.script_items.specs.Script.{Item, event, question, questions, passed}
 use Rattle.history_script.specs.Report.{eachLane, patternsOf, countsOf, builderBytes, replyBytes, callsBytes, reportOf}
 use Rattle.history_script.specs.Runs.{said, reports}
 use Rattle.history_script.proofs.Puts.{bytes-length}

@@ -8,12 +8,12 @@ use lib.ListN.{length, getD, drop}
 use Rattle.float.specs.Ops.{if_then_else_}
 use Rattle.float.proofs.Cases.{test}
 use Rattle.rate_tables.specs.declared.adjusted.AdjustedProbabilityTables.{AdjustedProbabilityTables}
-use Rattle.rate_tables.specs.declared.gaps.UnanimousGapTables.{UnanimousGapTables}
-use Rattle.history_script.specs.declared.script.Progress.{Progress}
-use Rattle.history_script.specs.Script.{Item, itemOf, items, passed}
+use Rattle.gap_tables.specs.declared.gaps.UnanimousGapTables.{UnanimousGapTables}
+use Rattle.script_items.specs.declared.script.Progress.{Progress}
+use Rattle.script_items.specs.Script.{Item, itemOf, items, passed}
 use Rattle.history_script.specs.Report.{reportOf}
 use Rattle.history_script.specs.Runs.{said, reports}
-use Rattle.history_script.proofs.Items.{items-more, items-done, a-question, an-event}
+use Rattle.script_items.proofs.Items.{items-more, items-done, a-question, an-event}
 use Rattle.history_script.proofs.Lengths.{report-length}
 
 -- what a kind writes, and how much that is

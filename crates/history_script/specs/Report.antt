@@ -2,14 +2,14 @@
 use Prim.Native.Nat.{ℕ}
 use mathlib.Core.List.{List, [], _∷_, _++_}
 use lib.Ieee.{Float, binary64, toBits}
-use Rattle.rate_tables.specs.declared.gaps.UnanimousGapTables.{UnanimousGapTables}
+use Rattle.gap_tables.specs.declared.gaps.UnanimousGapTables.{UnanimousGapTables}
 use Rattle.tie_rules.specs.Lanes.{lane, counted}
 use Rattle.lane_calls.specs.declared.call.Call.{Call}
 use Rattle.lane_calls.specs.declared.call.Reply.{Reply}
 use Rattle.lane_calls.specs.declared.call.Reply.the-variants.{Replied, Deferred}
 use Rattle.base_builder.specs.declared.builder.ConsensusBaseBuilder.{ConsensusBaseBuilder}
 use Rattle.base_builder.specs.Calls.{unanimousOf, multibaseOf, callFullOf, callOf}
-use Rattle.history_script.specs.declared.script.Progress.{Progress}
+use Rattle.script_items.specs.declared.script.Progress.{Progress}
 use Rattle.history_script.specs.Bytes.{bytesOf}
 
 -- what f gives at the lanes 0 to 3, one after another

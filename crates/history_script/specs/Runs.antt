@@ -5,13 +5,14 @@ use mathlib.Core.List.{List, [], _∷_, _++_}
 use lib.Dec.{leb}
 use Rattle.float.specs.Ops.{if_then_else_}
 use Rattle.rate_tables.specs.declared.adjusted.AdjustedProbabilityTables.{AdjustedProbabilityTables}
-use Rattle.rate_tables.specs.declared.gaps.UnanimousGapTables.{UnanimousGapTables}
+use Rattle.gap_tables.specs.declared.gaps.UnanimousGapTables.{UnanimousGapTables}
 use Rattle.rate_tables.specs.Adjusted.{adjustedTables}
-use Rattle.rate_tables.specs.Gaps.{gapTables}
+use Rattle.gap_tables.specs.Gaps.{gapTables}
 use Rattle.base_builder.specs.declared.builder.ConsensusBaseBuilder.{ConsensusBaseBuilder}
 use Rattle.base_builder.specs.Builder.{newAt, withRule}
-use Rattle.history_script.specs.declared.script.Progress.{Progress}
-use Rattle.history_script.specs.Script.{Item, event, question, ruleOf, items, isScript, passed}
+use Rattle.script_items.specs.declared.script.Progress.{Progress}
+use Rattle.tie_rules.specs.Ties.{ruleOf}
+use Rattle.script_items.specs.Script.{Item, event, question, items, isScript, passed}
 use Rattle.history_script.specs.Report.{reportOf}
 
 -- what an item writes: a report for a question, and else nothing

@@ -5,17 +5,17 @@ ghost use mathlib.Core.List.{[]};
 ghost use lib.Dec.{ltb};
 ghost use lib.ListN.{length};
 ghost use Rattle.float.specs.Ops.{if_then_else_};
-ghost use Rattle.lane_calls.specs.Unanimous.{tablesOf};
+ghost use Rattle.unanimous_shortcut.specs.Unanimous.{tablesOf};
 ghost use Rattle.history_script.specs.Bytes.{Put};
 ghost use Rattle.history_script.specs.Report.{patternsOf, countsOf, builderBytes, callBytes, replyBytes, callsBytes, reportOf};
 use crate::bytes::put_byte;
 use crate::bytes::put_number;
-use crate::script::Progress;
 use base_builder::ConsensusBaseBuilder;
 use base_builder::call_with;
 use base_builder::try_unanimous_fast_path_with;
 use lane_calls::Call;
 use lane_calls::Reply;
+use script_items::Progress;
 
 fn put_patterns(out: &mut [u8], at: usize, numbers: [f64; 4]) -> usize
     requires { ⌜ at + 32 ≤ length (now out) ⌝ }

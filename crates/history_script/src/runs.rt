@@ -3,22 +3,22 @@ ghost use mathlib.Core.Path.{_≡_};
 ghost use Prim.Native.Nat.{_≤_};
 ghost use lib.ListN.{length};
 ghost use lib.Seq.{sets};
-ghost use Rattle.lane_calls.specs.Unanimous.{tablesOf};
-ghost use Rattle.rate_tables.specs.Adjusted.{adjustedTables};
-ghost use Rattle.rate_tables.specs.Gaps.{gapTables};
+ghost use Rattle.unanimous_shortcut.specs.Unanimous.{tablesOf};
+ghost use Rattle.rate_tables.specs.Adjusted.{adjustedOf, adjustedTables};
+ghost use Rattle.gap_tables.specs.Gaps.{gapTables};
 ghost use Rattle.lent_bytes.specs.Buffer.{written};
 ghost use Rattle.history_script.specs.Bytes.{replied};
-ghost use Rattle.history_script.specs.Script.{items, adjustedOf};
+ghost use Rattle.script_items.specs.Script.{items};
 ghost use Rattle.history_script.specs.Runs.{reports, scriptBytes, historyBytes};
 use crate::report::put_item;
-use crate::script::Progress;
-use crate::script::is_script;
-use crate::script::pass;
-use crate::script::questions_in;
-use crate::script::rule_of;
 use base_builder::ConsensusBaseBuilder;
 use phred::PhredScore;
 use rate_tables::AdjustedProbabilityTables;
+use script_items::Progress;
+use script_items::is_script;
+use script_items::pass;
+use script_items::questions_in;
+use tie_rules::rule_of;
 
 // The reports of all items, one after another. The tables are lent: a copy at each item would cost
 // more than the item.
@@ -58,7 +58,7 @@ fn put_script(out: &mut [u8], pre: PhredScore, post: PhredScore, start: Progress
     ensures { λ _. ⌜ now (out .exit) ≡ sets (now (out .entry)) 0 (reports (adjustedTables (post .0)) (gapTables (pre .0)) (items (now (script .entry))) start) ⌝ }
 {
     let adjusted = AdjustedProbabilityTables::compute(post);
-    let gaps = rate_tables::build_unanimous_gap_tables(pre);
+    let gaps = gap_tables::build_unanimous_gap_tables(pre);
     let correct = adjusted.correct;
     let error = adjusted.error_per_alt;
     let thresholds = gaps.thresholds;

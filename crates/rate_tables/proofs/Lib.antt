@@ -1,4 +1,1 @@
 pub mod Filled
-pub mod Middle
-pub mod Promised
-pub mod Demand3

@@ -1,5 +1,6 @@
 -- What an observation adds to a lane's logarithm at each quality, for a post-UMI rate. Definitions only.
 use Prim.Native.Nat.{ℕ}
+use mathlib.Core.List.{List}
 use lib.Ieee.{Float}
 use Rattle.float.specs.Ops.{_⊖_, bits}
 use Rattle.elementary.specs.Ln.{lnOf}
@@ -18,6 +19,10 @@ correctAt post q = lnNot (adjustedError post q)
 -- of an error to one of the three other bases: a third
 unfoldable pub errorPerAltAt : ℕ → ℕ → Float
 errorPerAltAt post q = adjustedError post q ⊖ lnOf (bits 0x4008_0000_0000_0000)
+
+-- the tables by their parts
+abbrev pub adjustedOf : List Float → List Float → AdjustedProbabilityTables
+adjustedOf correct error = record { correct = correct; «error_per_alt» = error }
 
 -- both tables of a rate
 unfoldable pub adjustedTables : ℕ → AdjustedProbabilityTables

@@ -1,4 +1,2 @@
 pub mod Tables
 pub mod Adjusted
-pub mod Thresholds
-pub mod Gaps

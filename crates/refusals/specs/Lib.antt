@@ -1,2 +1,2 @@
-pub mod Refusals
 pub mod Result
+pub mod Refusals

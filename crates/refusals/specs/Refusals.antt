@@ -1,15 +1,23 @@
 -- Document 01's numbers. Definitions only.
 use Prim.Native.Nat.{ℕ}
 use Rattle.refusals.specs.declared.Refusal.{Refusal}
-use Rattle.refusals.specs.declared.Refusal.the-variants.{FileTooLong, CutOff, NoStrings, LengthsDiffer, NotAscii, UnlikeFirst, Mixed, BufferTooShort}
+use Rattle.refusals.specs.declared.Refusal.the-variants.{FileTooLong, CutOff, BadSettings, AbsentQuality, NoStrings, LengthsDiffer, NotAscii, UnlikeFirst, Mixed, BufferTooShort}
+use Rattle.refusals.specs.Result.{Result, refused, accepted}
 
 -- the number of a refusal
 abbrev pub numberOf : Refusal → ℕ
 numberOf FileTooLong = 1
 numberOf CutOff = 2
+numberOf BadSettings = 3
+numberOf AbsentQuality = 4
 numberOf NoStrings = 5
 numberOf LengthsDiffer = 6
 numberOf NotAscii = 7
 numberOf UnlikeFirst = 8
 numberOf Mixed = 9
 numberOf BufferTooShort = 10
+
+-- the number by which something is refused, 0 where it is accepted
+abbrev pub numberIn : {A : Type 0} → Result A → ℕ
+numberIn (refused r) = numberOf r
+numberIn (accepted a) = 0

@@ -1,4 +1,5 @@
 -- What is refused, or accepted with a value. Definitions only.
+use mathlib.Core.List.{List, [], _∷_}
 use Rattle.refusals.specs.declared.Refusal.{Refusal}
 use Rattle.refusals.specs.declared.Verdict.{Verdict}
 use Rattle.refusals.specs.declared.Verdict.the-variants.{Sound, Refused}
@@ -21,3 +22,8 @@ judged (Refused r) a = refused r
 abbrev pub orElse : Verdict → Verdict → Verdict
 orElse Sound v = v
 orElse (Refused r) v = Refused r
+
+-- the first of a list that is refused decides
+abbrev pub firstRefused : {A : Type 0} → (A → Verdict) → List A → Verdict
+firstRefused verdict [] = Sound
+firstRefused verdict (a ∷ l) = orElse (verdict a) (firstRefused verdict l)

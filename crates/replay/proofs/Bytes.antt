@@ -11,7 +11,7 @@ use lib.Seq.{drop-cons, append-snoc, take-suc-set}
 use borrow.Author.Tests.{ltb-true, lt-ltb, le-ltb}
 use Rattle.float.proofs.Cases.{both}
 use Rattle.replay.specs.Hex.{digitOf}
-use Rattle.replay.specs.Builders.{areDigits, byteOf, bytesOf}
+use Rattle.replay.specs.Fields.{areDigits, byteOf, bytesOf}
 
 module _ (bytes : List ℕ) (i : ℕ) where
   -- a digit: the others decide

@@ -9,12 +9,15 @@ use Rattle.io.specs.Digits.{digits}
 use Rattle.elementary.specs.Exp.{expOf}
 use Rattle.history_script.specs.Runs.{scriptBytes}
 use Rattle.history_script.specs.State.{builderScriptBytes}
+use Rattle.column_listing.specs.Listing.{listingOf}
 use Rattle.phred.specs.Phred.{allLnZero, lnSumExpArray}
 use Rattle.replay.specs.declared.hex.Written.the-variants.{Number, NoNumber}
 use Rattle.replay.specs.declared.lines.Verdict.the-variants.{End, Equal, Differs, NotAnAnswer}
-use Rattle.replay.specs.Functions.{kindOf}
+use Rattle.line_kinds.specs.Functions.{kindOf}
 use Rattle.replay.specs.Hex.{digitOf, hexFrom, hexOf}
-use Rattle.replay.specs.Builders.{areDigits, bytesOf, isField, isBuilderLine, besideScript, builderLine}
+use Rattle.replay.specs.Fields.{areDigits, bytesOf, isField}
+use Rattle.replay.specs.Builders.{isBuilderLine, besideScript, builderLine}
+use Rattle.replay.specs.Listings.{isListingLine, besideText, besideListing, listingLine}
 use Rattle.replay.specs.Lines.{fieldOf, fieldsFrom, numbersOf, verdictOf}
 
 -- what follows the letter: a space and 16 digits for each number, as io writes them, and a newline
@@ -84,3 +87,35 @@ no-rule = refl
 -- 91 bytes that are the report's, 91 others, and too few
 pub of-reports : (besideScript 98 (replicate 91 7) (replicate 91 7) ≡ Equal 98) × (besideScript 98 (replicate 91 7) (replicate 90 7 ++ (8 ∷ [])) ≡ Differs 98) × (besideScript 98 (replicate 90 7) (replicate 91 7) ≡ NotAnAnswer)
 of-reports = (refl, refl, refl)
+
+-- a line of a listing, by the bytes of its two lengths, the byte before each field and the last byte; the file is of sevens, the text of nines
+pub listing : List ℕ → List ℕ → ℕ → ℕ → List ℕ
+listing file text space end =
+    (120 ∷ space ∷ inDigits (file ++ replicate 128 7))
+    ++ (space ∷ inDigits (text ++ replicate 512 9))
+    ++ (end ∷ [])
+
+-- it is in the form with spaces and a newline, and not with a digit for a space or a space for the newline
+pub listing-form :
+    let n : List ℕ = 0 ∷ 0 ∷ [] in
+    (isListingLine (listing n n 32 10) ≡ true) × (isListingLine (listing n n 48 10) ≡ false) × (isListingLine (listing n n 32 32) ≡ false)
+unfolding listing inDigits isListingLine isField areDigits digitOf
+listing-form = (refl, refl, refl)
+
+-- a file of two bytes and a text of three, and the longest of each: the file's listing is held to the text
+pub of-listings :
+    (verdictOf (listing (2 ∷ 0 ∷ []) (3 ∷ 0 ∷ []) 32 10) ≡ besideListing 120 (listingOf (7 ∷ 7 ∷ [])) (9 ∷ 9 ∷ 9 ∷ []))
+    × (verdictOf (listing (128 ∷ 0 ∷ []) (0 ∷ 2 ∷ []) 32 10) ≡ besideListing 120 (listingOf (replicate 128 7)) (replicate 512 9))
+unfolding listing inDigits verdictOf kindOf listingLine isListingLine isField areDigits digitOf bytesOf
+of-listings = (refl, refl)
+
+-- a file and a text of a byte more are no answers
+pub too-long : (verdictOf (listing (129 ∷ 0 ∷ []) (0 ∷ 0 ∷ []) 32 10) ≡ NotAnAnswer) × (verdictOf (listing (0 ∷ 0 ∷ []) (1 ∷ 2 ∷ []) 32 10) ≡ NotAnAnswer)
+unfolding listing inDigits verdictOf kindOf listingLine isListingLine isField areDigits digitOf bytesOf
+too-long = (refl, refl)
+
+-- a reply of two bytes, that are the text's, that are others, and beside a text of another length
+pub of-texts :
+    let held : List ℕ = 5 ∷ 6 ∷ 0 ∷ [] in
+    (besideText 120 2 held (5 ∷ 6 ∷ []) ≡ Equal 120) × (besideText 120 2 held (5 ∷ 7 ∷ []) ≡ Differs 120) × (besideText 120 2 held held ≡ Differs 120)
+of-texts = (refl, refl, refl)

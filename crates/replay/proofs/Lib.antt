@@ -1,5 +1,5 @@
 pub mod Digits
-pub mod Fields
+pub mod Numbers
 pub mod Bytes
 pub mod Forms
 pub mod Reports

@@ -4,8 +4,8 @@ use mathlib.Core.List.{List, [], _∷_}
 use lib.Dec.{ltb}
 use lib.ListN.{getD}
 use lib.Ieee.{Float, binary64, toBits}
-use Rattle.replay.specs.declared.functions.Function.{Function}
-use Rattle.replay.specs.declared.functions.Function.the-variants.{Exp, Ln, LnOnePlus, ExpMinusOne, PhredToLnErrorProb, PhredToLnCorrectProb, LnProbToPhred, LogOnePlusExp, LnOneMinusExp, LnAMinusB, LnErrorProbTwoTrials, LnSumExp, LnSumExpArray, LnNormalize, LnNot}
+use Rattle.line_kinds.specs.declared.functions.Function.{Function}
+use Rattle.line_kinds.specs.declared.functions.Function.the-variants.{Exp, Ln, LnOnePlus, ExpMinusOne, PhredToLnErrorProb, PhredToLnCorrectProb, LnProbToPhred, LogOnePlusExp, LnOneMinusExp, LnAMinusB, LnErrorProbTwoTrials, LnSumExp, LnSumExpArray, LnNormalize, LnNot}
 use Rattle.replay.specs.declared.hex.Written.{Written}
 use Rattle.replay.specs.declared.hex.Written.the-variants.{Number, NoNumber}
 use Rattle.float.specs.Ops.{bits, if_then_else_}

@@ -1,38 +1,15 @@
 -- A line of a builder: whether its report is what the script writes that is run from the builder. Definitions only.
-use Prim.Native.Nat.{ℕ, _+_, _*_}
-use mathlib.Core.Bool.{Bool, true, _&&_}
-use mathlib.Core.List.{List, [], _∷_}
-use lib.Dec.{ltb, eqb}
+use Prim.Native.Nat.{ℕ}
+use mathlib.Core.Bool.{Bool, _&&_}
+use mathlib.Core.List.{List}
+use lib.Dec.{eqb}
 use lib.ListN.{length, take, drop, getD}
 use Rattle.lent_bytes.specs.Lists.{sameBytes}
 use Rattle.float.specs.Ops.{if_then_else_}
 use Rattle.history_script.specs.State.{builderScriptBytes}
 use Rattle.replay.specs.declared.lines.Verdict.{Verdict}
 use Rattle.replay.specs.declared.lines.Verdict.the-variants.{Equal, Differs, NotAnAnswer}
-use Rattle.replay.specs.Hex.{digitOf}
-
--- all of it is digits
-unfoldable pub areDigits : List ℕ → Bool
-areDigits [] = true
-areDigits (b ∷ bs) = ltb (digitOf b) 16 && areDigits bs
-
--- a byte of two digits, the high digit first
-abbrev pub byteOf : ℕ → ℕ → ℕ
-byteOf high low = 16 * digitOf high + digitOf low
-
--- the bytes of digits
-unfoldable pub bytesOf : List ℕ → List ℕ
-bytesOf [] = []
-bytesOf (high ∷ []) = []
-bytesOf (high ∷ low ∷ digits) = byteOf high low ∷ bytesOf digits
-
--- a field: a space, then digits
-unfoldable pub isField : List ℕ → Bool
-isField field = eqb (getD field 0 0) 32 && areDigits (drop 1 field)
-
--- its bytes
-abbrev pub fieldBytes : List ℕ → List ℕ
-fieldBytes field = bytesOf (drop 1 field)
+use Rattle.replay.specs.Fields.{isField, fieldBytes}
 
 -- the fields of a line: 3 bytes of pre rate, post rate and rule; 80 of the builder's state; 48 of the script; 91 of the report
 abbrev pub ratesIn : List ℕ → List ℕ

@@ -1,22 +1,23 @@
--- What a line of the stored list says: whether its result is what the function gives for its arguments, or its report the builder's, bit for bit. Definitions only.
+-- What a line of the stored list says: if its result is its function's, its report its builder's, its text its file's listing, bit for bit. Definitions only.
 use Prim.Native.Nat.{ℕ, zero, suc, _+_, _*_}
 use mathlib.Core.Bool.{true, false, _&&_}
 use mathlib.Core.List.{List}
 use lib.Dec.{eqb}
 use lib.ListN.{length, take, drop, getD, set, replicate}
 use Rattle.float.specs.Ops.{if_then_else_}
-use Rattle.replay.specs.declared.functions.Function.{Function}
-use Rattle.replay.specs.declared.functions.Kind.{Kind}
-use Rattle.replay.specs.declared.functions.Kind.the-variants.{Answer, Builder, Unknown}
+use Rattle.line_kinds.specs.declared.functions.Function.{Function}
+use Rattle.line_kinds.specs.declared.functions.Kind.{Kind}
+use Rattle.line_kinds.specs.declared.functions.Kind.the-variants.{Answer, Builder, Listing, Unknown}
 use Rattle.replay.specs.declared.hex.Written.{Written}
 use Rattle.replay.specs.declared.hex.Written.the-variants.{Number, NoNumber}
 use Rattle.replay.specs.declared.lines.Fields.{Fields}
 use Rattle.replay.specs.declared.lines.Verdict.{Verdict}
 use Rattle.replay.specs.declared.lines.Verdict.the-variants.{End, Equal, Differs, NotAnAnswer}
-use Rattle.replay.specs.Functions.{kindOf, argumentsOf}
+use Rattle.line_kinds.specs.Functions.{kindOf, argumentsOf}
 use Rattle.replay.specs.Hex.{hexOf}
 use Rattle.replay.specs.Answers.{answerOf}
 use Rattle.replay.specs.Builders.{builderLine}
+use Rattle.replay.specs.Listings.{listingLine}
 
 -- the number of a field: a space and 16 digits
 unfoldable pub fieldOf : List ℕ → Written
@@ -69,6 +70,7 @@ answerLine letter f line = ofFields letter f (numbersOf (argumentsOf f + 1) line
 abbrev pub ofKind : ℕ → Kind → List ℕ → Verdict
 ofKind letter (Answer f) line = answerLine letter f line
 ofKind letter Builder line = builderLine letter line
+ofKind letter Listing line = listingLine letter line
 ofKind letter Unknown line = NotAnAnswer
 
 -- of a line, and of no bytes: they are the end of the list

@@ -1,10 +1,10 @@
 // What our functions give for the numbers of a line.
 ghost use mathlib.Core.Path.{_≡_};
 ghost use Rattle.replay.specs.Answers.{pattern, valueOf, answerOf};
-use crate::functions::Function;
 use crate::hex::Written;
 use crate::lines::NUMBERS;
 use float::from_pattern;
+use line_kinds::Function;
 use phred::LogProbability;
 use phred::PhredScore;
 

@@ -1,15 +1,15 @@
-// What a line of the stored list says of its function, or of a builder.
+// What a line of the stored list says of its function, of a builder or of a listing.
 ghost use mathlib.Core.Path.{_≡_};
 ghost use Prim.Native.Nat.{_≤_};
 ghost use lib.ListN.{length};
 ghost use Rattle.replay.specs.Lines.{fieldOf, noFields, numbersOf, answerLine, verdictOf};
 use crate::answers;
 use crate::builders;
-use crate::functions;
-use crate::functions::Function;
-use crate::functions::Kind;
 use crate::hex;
 use crate::hex::Written;
+use crate::listings;
+use line_kinds::Function;
+use line_kinds::Kind;
 
 // No line has more numbers.
 pub const NUMBERS: usize = 5;
@@ -31,10 +31,11 @@ pub fn judge(line: &[u8]) -> Verdict
         return Verdict::End;
     }
     let letter = line[0];
-    let kind = functions::kind_of(letter);
+    let kind = line_kinds::kind_of(letter);
     match kind {
         Kind::Answer(function) => answer_line(letter, function, line),
         Kind::Builder => builders::builder_line(letter, line),
+        Kind::Listing => listings::listing_line(letter, line),
         Kind::Unknown => Verdict::NotAnAnswer,
     }
 }
@@ -43,7 +44,7 @@ pub fn judge(line: &[u8]) -> Verdict
 fn answer_line(letter: u8, function: Function, line: &[u8]) -> Verdict
     ensures { λ r. ⌜ r ≡ answerLine letter function (now (line .entry)) ⌝ }
 {
-    let last = functions::arguments(function);
+    let last = line_kinds::arguments(function);
     let fields = numbers(line, last + 1);
     let read = fields.numbers;
     if !fields.formed {

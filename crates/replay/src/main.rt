@@ -3,18 +3,19 @@
 mod answers;
 mod builders;
 mod counts;
-mod functions;
+mod fields;
 mod hex;
 mod lines;
+mod listings;
 
 ghost use Prim.Native.Nat.{_≤_};
 ghost use lib.ListN.{length};
 ghost use Rattle.io.specs.Counts.{Counts as Within};
-ghost use Rattle.replay.specs.Functions.{longest};
+ghost use Rattle.line_kinds.specs.Functions.{longest};
 use counts::COUNTERS;
-use functions::LONGEST;
 use libc::STDIN_FILENO;
 use libc::STDOUT_FILENO;
+use line_kinds::LONGEST;
 use lines::Verdict;
 
 // A proved loop has to end, and nothing says that an input does. No stored list is this long.
@@ -64,7 +65,7 @@ fn read_line(room: &mut [u8]) -> usize
     if start < 2 {
         return start;
     }
-    let end = functions::line_length(room[0]);
+    let end = line_kinds::line_length(room[0]);
     2 + io::read_full(STDIN_FILENO, &mut room[2..end])
 }
 
@@ -91,6 +92,7 @@ fn print_all(counts: &[u64; COUNTERS]) {
     print_counts(b"ln_normalize: ", counts, b'z');
     print_counts(b"ln_not: ", counts, b'n');
     print_counts(b"builder: ", counts, b'b');
+    print_counts(b"listing: ", counts, b'x');
 }
 
 fn print_counts(name: &[u8], counts: &[u64; COUNTERS], letter: u8) {

@@ -6,7 +6,7 @@ use Prim.Native.Nat.{ℕ, _≤_, _<_}
 use native.Mathlib.Omega.{arith}
 use borrow.Author.Tests.{lt-ltb, le-ltb, leb-true, leb-false}
 use lib.Dec.{ltb, leb}
-use lib.ListN.{length, take}
+use lib.ListN.{length, take, length-take}
 use lib.Seq.{length-take-le}
 use Rattle.float.proofs.Cases.{choice}
 use Rattle.lent_bytes.specs.Buffer.{written}
@@ -23,9 +23,11 @@ use Rattle.simple_umi.specs.declared.answers.FlaggedAnswer.{FlaggedAnswe
 use Rattle.simple_umi.specs.declared.answers.FlaggedAnswer.the-variants as flagged
 use Rattle.simple_umi.specs.declared.answers.DuplexAnswer.{DuplexAnswer}
 use Rattle.simple_umi.specs.declared.answers.DuplexAnswer.the-variants as duplex
+use Rattle.simple_umi.specs.declared.group.Group.{Group}
 use Rattle.simple_umi.specs.declared.caller.SimpleConsensusCaller.{SimpleConsensusCaller}
 use Rattle.simple_umi.specs.Consensus.{Found, withBuilder, defaultCaller, consensusOf, umisOf}
 use Rattle.simple_umi.specs.Duplex.{FoundDuplex}
+use Rattle.simple_umi.specs.Places.{groupFound, groupResult}
 use Rattle.simple_umi.specs.Answers.{roomFor, callConsensusIn, consensusIn, consensusUmisIn, verdictIn, answerOf, flaggedOf, duplexAnswerOf, answerNumber, flaggedNumber, duplexNumber, numberIn, answerLength, flaggedLength, duplexLength, bufferAfter, callerAfter}
 use Rattle.simple_umi.proofs.Groups.{call-none, call-some}
 
@@ -98,6 +100,10 @@ ended-with e d = (e .0, (e .1 .0, (e .1 .1, d)))
 pub ended-also : {A B C D E : Type 0} → A × (B × C) → D → (A → E) → A × (B × (C × (D × E)))
 ended-also e d f = (e .0, (e .1 .0, (e .1 .1, (d, f (e .0)))))
 
+-- and one more
+pub ended-fits : {A B C D E F : Type 0} → A × (B × (C × (D × E))) → F → A × (B × (C × (D × (E × F))))
+ended-fits e f = (e .0, (e .1 .0, (e .1 .1 .0, (e .1 .1 .1 .0, (e .1 .1 .1 .1, f)))))
+
 -- what was put, by put's reply v
 abbrev Kept : Found → Result Found → Verdict → Type 0
 Kept f t Sound = t ≡ accepted f
@@ -134,6 +140,10 @@ module _ {X : Type 0} (say : Result Found → X) (c : SimpleConsensusCaller) (ou
           let t : andThen (judged g f) (roomFor out) ≡ accepted f = subst (Kept f (andThen (judged g f) (roomFor out))) (sym reply ∙ h) (kept out g f) in
           (a ∙ ap say (sym t), (k ∙ ap (callerAfter c) (sym t), lent))
 
+-- a text of at most 255 bytes
+length-take-most : (n : ℕ) (text : List ℕ) → n ≤ 255 → length (take n text) ≤ 255
+length-take-most n text h = rw (length-take n text) (omega arith)
+
 -- ---- of a set's bytes: refused where the set is, and else of its strings
 module _ (s out : List ℕ) where
   pub umis-in-refused : (r : Refusal) → readSet s ≡ refused r → consensusUmisIn s out ≡ refused r
@@ -164,3 +174,20 @@ module _ (s out : List ℕ) where
     pub consensus-in : (l : List (List ℕ)) → readSet s ≡ accepted l → andThen (consensusOf c l) (roomFor out) ≡ consensusIn c s out
     unfolding consensusIn
     consensus-in l e = rw e
+
+    -- a group's text has at most 255 bytes, so that a buffer of as many holds it
+    module _ (h : 255 ≤ length out) where
+      judged-fits : (v : Verdict) (f : Found) → length (f .text) ≤ 255 → andThen (judged v f) (roomFor out) ≡ judged v f
+      judged-fits (Refused r) f n = refl
+      judged-fits Sound f n = room-enough out f (omega arith)
+
+      group-fits : (k : Group) → k .length ≤ 255 → andThen (groupResult k) (roomFor out) ≡ groupResult k
+      group-fits k n = judged-fits (k .verdict) (groupFound k) (length-take-most (k .length) (k .text) n)
+
+      pub consensus-fits : (l : List (List ℕ)) → readSet s ≡ accepted l → (k : Group) → k .length ≤ 255 → groupResult k ≡ consensusOf c l
+          → consensusIn c s out ≡ andThen (readSet s) (consensusOf c)
+      consensus-fits l e k n g =
+          sym (consensus-in l e) ∙ ap (λ (t : Result Found). andThen t (roomFor out)) (sym g) ∙ group-fits k n ∙ g ∙ sym (ap (λ (t : Result (List (List ℕ))). andThen t (consensusOf c)) e)
+
+    pub consensus-refused-fits : (r : Refusal) → readSet s ≡ refused r → consensusIn c s out ≡ andThen (readSet s) (consensusOf c)
+    consensus-refused-fits r e = consensus-in-refused r e ∙ sym (ap (λ (t : Result (List (List ℕ))). andThen t (consensusOf c)) e)

@@ -2,7 +2,10 @@
 // string.
 ghost use mathlib.Core.Path.{_≡_};
 ghost use Prim.Native.Nat.{_≤_};
-ghost use Rattle.simple_umi.specs.Consensus.{defaultCaller};
+ghost use lib.ListN.{length};
+ghost use Rattle.refusals.specs.Result.{andThen};
+ghost use Rattle.string_set.specs.StringSet.{readSet};
+ghost use Rattle.simple_umi.specs.Consensus.{defaultCaller, consensusOf};
 ghost use Rattle.simple_umi.specs.Answers.{consensusIn, duplexIn, flaggedOf, flaggedNumber, flaggedLength, duplexAnswerOf, duplexNumber, duplexLength, numberIn, pairFound, bufferAfter, callerAfter};
 use crate::answers::DuplexAnswer;
 use crate::answers::FlaggedAnswer;
@@ -46,13 +49,15 @@ impl SimpleUmiConsensusCaller {
         }
     }
 
-    // The consensus of a set, into the buffer, and whether a string differs from it.
+    // The consensus of a set, into the buffer, and whether a string differs from it. A buffer of 255 bytes
+    // is never too short.
     pub fn consensus(self, set: &[u8], out: &mut [u8]) -> FlaggedConsensus
         ensures answer { λ r. ⌜ r .answer ≡ flaggedOf (consensusIn (self .caller) (now (set .entry)) (now (out .entry))) ⌝ }
         ensures caller { λ r. ⌜ r .caller .caller ≡ callerAfter (self .caller) (consensusIn (self .caller) (now (set .entry)) (now (out .entry))) ⌝ }
         ensures lent { λ _. ⌜ now (out .exit) ≡ bufferAfter (now (out .entry)) (consensusIn (self .caller) (now (set .entry)) (now (out .entry))) ⌝ }
         ensures short { λ r. ⌜ flaggedLength (r .answer) ≤ 255 ⌝ }
         ensures number { λ r. ⌜ flaggedNumber (r .answer) ≡ numberIn (consensusIn (self .caller) (now (set .entry)) (now (out .entry))) ⌝ }
+        ensures fits { λ _. ⌜ (255 ≤ length (now (out .entry)) → consensusIn (self .caller) (now (set .entry)) (now (out .entry)) ≡ andThen (readSet (now (set .entry))) (consensusOf (self .caller))) ⌝ }
     {
         let caller = self.caller;
         let read = string_set::read(set);

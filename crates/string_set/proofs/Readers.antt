@@ -1,14 +1,18 @@
 -- Reading off the front of what a place leaves of the bytes; and a loop over parts of one kind, whatever the kind. Assumes nothing.
 use mathlib.Core.Path.{_≡_, refl, sym, _∙_, ap}
 use mathlib.Core.List.{List, [], _∷_, _++_, append-nil, append-assoc}
-use Prim.Native.Nat.{ℕ, suc, _+_, _-_, _≤_, _<_}
+use Prim.Native.Nat.{ℕ, suc, _+_, _-_, _*_, _≤_, _<_}
 use native.Mathlib.Omega.{arith}
-use borrow.Author.Tests.{le-leb, lt-leb}
+use borrow.Author.Tests.{lt-ltb, le-ltb, le-leb, lt-leb, ltb-true, ltb-false}
+use lib.Dec.{ltb}
 use lib.ListN.{length, take, drop, drop-of-length-le, length-drop}
 use lib.Seq.{drop-drop}
+use Rattle.float.proofs.Cases.{test}
 use Rattle.lent_bytes.specs.Lists.{byteAt}
 use Rattle.lent_bytes.proofs.Lists.{bytes-from}
-use Rattle.string_set.specs.Readers.{Taken, taken, short, next, byte, front, many}
+use Rattle.refusals.specs.declared.Refusal.the-variants.{FileTooLong, CutOff}
+use Rattle.refusals.specs.Result.{refused, accepted, andThen}
+use Rattle.string_set.specs.Readers.{Taken, taken, short, next, byte, word, front, many, alone, lone}
 
 module _ (s : List ℕ) (at : ℕ) where
   pub byte-at : at < length s → byte (drop at s) ≡ taken (byteAt s at) (drop (at + 1) s)
@@ -26,6 +30,50 @@ module _ (s : List ℕ) (at : ℕ) where
   pub front-end : (n : ℕ) → at ≤ length s → length s < at + n → front n (drop at s) ≡ short
   unfolding front
   front-end n k h = rw (lt-leb n (length (drop at s)) (rw (length-drop at s) (omega arith)))
+
+-- a count of two bytes at a place
+module _ (s : List ℕ) (at : ℕ) where
+  pub word-at : at + 2 ≤ length s → word (drop at s) ≡ taken (byteAt s at + 256 * byteAt s (at + 1)) (drop (at + 2) s)
+  unfolding word
+  word-at h =
+      let e : at + 2 ≡ at + 1 + 1 = omega arith in
+      rw (byte-at s at (omega arith), byte-at s (at + 1) (omega arith), e)
+
+  pub word-end : length s < at + 2 → word (drop at s) ≡ short
+  unfolding word
+  word-end h =
+      test (ltb at (length s))
+      (λ t. rw (byte-at s at (ltb-true at (length s) t), byte-end s (at + 1) (omega arith)))
+      (λ t. rw (byte-end s at (ltb-false at (length s) t)))
+
+-- a part alone
+module _ {A : Type 0} (one : List ℕ → Taken A) (s : List ℕ) where
+  -- over 65,536 bytes
+  pub lone-long : 65536 < length s → lone one s ≡ refused FileTooLong
+  lone-long h = rw (lt-ltb 65536 (length s) h)
+
+  module _ (h : length s ≤ 65536) where
+    pub lone-fits : lone one s ≡ alone (one s)
+    lone-fits = rw (le-ltb 65536 (length s) h)
+
+    -- the bytes do not reach
+    pub lone-cut : one s ≡ short → lone one s ≡ refused CutOff
+    lone-cut e = rw (le-ltb 65536 (length s) h, e)
+
+    module _ (a : A) (at : ℕ) (e : one s ≡ taken a (drop at s)) where
+      -- bytes are left
+      pub lone-left : at < length s → lone one s ≡ refused CutOff
+      lone-left k = rw (le-ltb 65536 (length s) h, e, bytes-from s at k)
+
+      -- it is all of them
+      pub lone-all : length s ≤ at → lone one s ≡ accepted a
+      lone-all k = rw (le-ltb 65536 (length s) h, e, drop-of-length-le s k)
+
+-- what follows the last part read decides, whatever is made of that part
+pub alone-next : {A B : Type 0} (f : A → B) (t : Taken A) → alone (next t (λ a r. taken (f a) r)) ≡ andThen (alone t) (λ a. accepted (f a))
+alone-next f short = refl
+alone-next f (taken a []) = refl
+alone-next f (taken a (x ∷ r)) = refl
 
 -- the parts that were read already, and then those still to read
 abbrev pub prepend : {A : Type 0} → List A → Taken (List A) → Taken (List A)

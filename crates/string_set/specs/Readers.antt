@@ -1,10 +1,10 @@
 -- Reading off the front of a list of bytes. No position and no loop stands here. Definitions only.
-use Prim.Native.Nat.{ℕ, zero, suc}
+use Prim.Native.Nat.{ℕ, zero, suc, _+_, _*_}
 use mathlib.Core.List.{List, [], _∷_}
-use lib.Dec.{leb}
+use lib.Dec.{leb, ltb}
 use lib.ListN.{length, take, drop}
 use Rattle.float.specs.Ops.{if_then_else_}
-use Rattle.refusals.specs.declared.Refusal.the-variants.{CutOff}
+use Rattle.refusals.specs.declared.Refusal.the-variants.{FileTooLong, CutOff}
 use Rattle.refusals.specs.Result.{Result, refused, accepted}
 
 -- what is read off the front, and the bytes after it; or the bytes do not reach
@@ -22,6 +22,10 @@ unfoldable pub byte : List ℕ → Taken ℕ
 byte [] = short
 byte (a ∷ r) = taken a r
 
+-- a count of two bytes, the low byte first
+unfoldable pub word : List ℕ → Taken ℕ
+word r = next (byte r) (λ low s. next (byte s) (λ high t. taken (low + 256 * high) t))
+
 -- n bytes
 unfoldable pub front : ℕ → List ℕ → Taken (List ℕ)
 front n r =
@@ -38,3 +42,9 @@ abbrev pub alone : {A : Type 0} → Taken A → Result A
 alone short = refused CutOff
 alone (taken a []) = accepted a
 alone (taken a (x ∷ r)) = refused CutOff
+
+-- bytes that are one such part and nothing else: 1 where there are over 65,536 of them, and else 2 where they are not
+abbrev pub lone : {A : Type 0} → (List ℕ → Taken A) → List ℕ → Result A
+lone one s =
+    if ltb 65536 (length s) then refused FileTooLong
+    else alone (one s)

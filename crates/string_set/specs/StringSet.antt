@@ -5,11 +5,10 @@ use lib.Dec.{leb, ltb}
 use lib.ListN.{length, drop}
 use Rattle.float.specs.Ops.{if_then_else_}
 use Rattle.lent_bytes.specs.Lists.{byteAt}
-use Rattle.refusals.specs.declared.Refusal.the-variants.{FileTooLong}
-use Rattle.refusals.specs.Result.{Result, refused}
+use Rattle.refusals.specs.Result.{Result}
 use Rattle.string_set.specs.declared.Next.{Next}
 use Rattle.string_set.specs.declared.Next.the-variants.{At, Past}
-use Rattle.string_set.specs.Readers.{Taken, next, byte, front, many, alone}
+use Rattle.string_set.specs.Readers.{Taken, next, byte, front, many, alone, lone}
 
 -- a string: a length byte, and that many bytes
 unfoldable pub string : List ℕ → Taken (List ℕ)
@@ -21,9 +20,7 @@ stringSet r = next (byte r) (λ n s. many string n s)
 
 -- a lone set: its strings, or 1 where it has over 65,536 bytes, or 2 where they do not make up a set
 unfoldable pub readSet : List ℕ → Result (List (List ℕ))
-readSet s =
-    if ltb 65536 (length s) then refused FileTooLong
-    else alone (stringSet s)
+readSet s = lone stringSet s
 
 -- n strings after the first byte, and nothing left
 abbrev pub walked : ℕ → List ℕ → Result (List (List ℕ))

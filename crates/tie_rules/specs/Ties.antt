@@ -13,6 +13,12 @@ use Rattle.tie_rules.specs.declared.tie_rule.TieRule.{TieRule}
 use Rattle.tie_rules.specs.declared.tie_rule.TieRule.the-variants.{UlpRelative, FgbioCompat}
 use Rattle.tie_rules.specs.Lanes.{lane, noLane, allBelow}
 
+-- the rule of a number: 0 FgbioCompat, any other UlpRelative
+abbrev pub ruleOf : ℕ → TieRule
+ruleOf n =
+    if eqb n 0 then FgbioCompat
+    else UlpRelative
+
 -- ---- when two lanes tie
 
 -- under FgbioCompat: within 2^-52

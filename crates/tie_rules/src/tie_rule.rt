@@ -4,7 +4,7 @@ ghost use Prim.Native.Nat.{_<_};
 ghost use mathlib.Core.Bool.{not, _||_};
 ghost use lib.Dec.{eqb};
 ghost use Rattle.tie_rules.specs.declared.tie_rule.TieRule.the-variants.{FgbioCompat};
-ghost use Rattle.tie_rules.specs.Ties.{fgbioTie, nearPatterns, ulpTie, fgbioTested, tiesWith, untied as untiedOf, noneAbove, fgbioStep, ulpStep, scan, unseen, lowest, fgbioUniqueMaxIndex, uniqueMaxIndex, notMinusInfinity, uniqueMaxIndexWith};
+ghost use Rattle.tie_rules.specs.Ties.{ruleOf, fgbioTie, nearPatterns, ulpTie, fgbioTested, tiesWith, untied as untiedOf, noneAbove, fgbioStep, ulpStep, scan, unseen, lowest, fgbioUniqueMaxIndex, uniqueMaxIndex, notMinusInfinity, uniqueMaxIndexWith};
 use crate::lane::NO_LANE;
 
 // 2^-52
@@ -15,6 +15,16 @@ pub enum TieRule {
     UlpRelative,
     // fgbio's rule, the default: 2^-52 at any scale, tested from lane to lane.
     FgbioCompat,
+}
+
+// The rule of a number, as files and scripts write it: 0 the default, 1 the other.
+pub fn rule_of(n: u8) -> TieRule
+    ensures { λ r. ⌜ r ≡ ruleOf n ⌝ }
+{
+    if n == 0 {
+        return TieRule::FgbioCompat;
+    }
+    TieRule::UlpRelative
 }
 
 // A scan of the lanes: whether one was taken, the running maximum, and its lane.

@@ -1,6 +1,7 @@
 //! Times, ours beside the Rust's in one process.
 
 mod columns;
+mod files;
 mod umis;
 
 use std::hint::black_box;
@@ -64,16 +65,21 @@ pub fn run(seed: u64, markdown: bool) -> bool {
         "UMI sets: best of {} runs, about 1 percent of errors, the defaults; the Rust's strings are made before",
         umis::ROUNDS
     );
+    println!(
+        "column files: best of {} runs, quality 20 to 40, nearly unanimous; tables built by both or kept by both",
+        files::ROUNDS
+    );
     println!("ratio: the Rust's time over ours, above 1 where ours is less\n");
     let table = table(&lines);
     print!("{}", if markdown { table.markdown() } else { table.aligned() });
     true
 }
 
-/// The lines of columns and of UMI sets, or what is wrong with an answer.
+/// The lines of columns, of UMI sets and of column files, or what is wrong with an answer.
 fn of_sequences(seed: u64) -> Result<Vec<Line>, String> {
     let mut lines = columns::lines(seed)?;
     lines.extend(umis::lines(seed)?);
+    lines.extend(files::lines(seed)?);
     Ok(lines)
 }
 

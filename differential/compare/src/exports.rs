@@ -69,6 +69,9 @@ unsafe extern "C" {
         out: *mut u8,
         length: usize,
     ) -> u64;
+
+    fn consensus_list(file: *const u8, file_length: usize, out: *mut u8, length: usize) -> u64;
+    fn consensus_calls(file: *const u8, file_length: usize, times: u32) -> u64;
 }
 
 // SAFETY of each call below: a slice is passed as a pointer and how many elements there are behind
@@ -129,4 +132,17 @@ pub fn umi_caller(rates: Rates, which: u8, set: &[u8], out: &mut [u8]) -> u64 {
     let (out, length) = (out.as_mut_ptr(), out.len());
     // SAFETY: as above.
     unsafe { consensus_umi_caller(pre, post, quality, which, set, set_length, out, length) }
+}
+
+/// `consensus_list` of a column file.
+pub fn list(file: &[u8], out: &mut [u8]) -> u64 {
+    let (file, file_length) = (file.as_ptr(), file.len());
+    // SAFETY: as above.
+    unsafe { consensus_list(file, file_length, out.as_mut_ptr(), out.len()) }
+}
+
+/// `consensus_calls` of a column file.
+pub fn calls(file: &[u8], times: u32) -> u64 {
+    // SAFETY: as above.
+    unsafe { consensus_calls(file.as_ptr(), file.len(), times) }
 }

@@ -1,6 +1,6 @@
 //! Histories of a builder, ours beside the Rust's: whatever it reports, bit for bit.
 
-mod columns;
+pub mod columns;
 mod tally;
 
 use std::collections::HashSet;

@@ -14,6 +14,7 @@ mod difference;
 mod elementary;
 mod environment;
 mod exports;
+mod files;
 mod function;
 mod hexadecimal;
 mod histories;
@@ -33,17 +34,19 @@ usage: compare elementary [--arguments N] [--seed N]   the four elementary funct
        compare histories [--histories N] [--seed N]    the builder's whole histories, bit for bit
        compare builders [--builders N] [--seed N]      builders of any state, bit for bit
        compare umis [--sets N] [--seed N]              the functions of simple_umi.rs, bit for bit
+       compare files [--files N] [--seed N]            the listings of column files, byte for byte
        compare history PRE POST RULE SCRIPT [STATE]    one history again, field by field
        compare vectors FILE [--seed N]                 write the stored list of the Rust's answers
        compare bench [--markdown] [--seed N]           times, the Rust's beside ours
 The seed is also taken from the variable DIFFERENTIAL_SEED.";
 
 /// How many arguments of each range are compared, how many histories, how many builders, how many
-/// drawn string sets, and the seed, where nothing else is asked.
+/// drawn string sets, how many drawn column files, and the seed, where nothing else is asked.
 const ARGUMENTS: u64 = 1_000_000;
 const HISTORIES: u64 = 1_000_000;
 const BUILDERS: u64 = 20_000;
 const SETS: u64 = 20_000;
+const FILES: u64 = 20_000;
 const SEED: u64 = 1;
 
 /// What is to be done.
@@ -54,6 +57,7 @@ enum Command {
     Histories,
     Builders,
     Umis,
+    Files,
     History(Again),
     Vectors(PathBuf),
     Bench,
@@ -66,6 +70,7 @@ struct Request {
     histories: u64,
     builders: u64,
     sets: u64,
+    files: u64,
     seed: u64,
     markdown: bool,
 }
@@ -77,6 +82,7 @@ impl Request {
         let mut histories = HISTORIES;
         let mut builders = BUILDERS;
         let mut sets = SETS;
+        let mut files = FILES;
         let mut markdown = false;
         let mut words = Vec::new();
         while let Some(word) = line.next() {
@@ -85,6 +91,7 @@ impl Request {
                 "--histories" => histories = number(line.next())?,
                 "--builders" => builders = number(line.next())?,
                 "--sets" => sets = number(line.next())?,
+                "--files" => files = number(line.next())?,
                 "--seed" => seed = number(line.next())?,
                 "--markdown" => markdown = true,
                 option if option.starts_with('-') => return Err(format!("no option {option}")),
@@ -92,7 +99,7 @@ impl Request {
             }
         }
         let command = command(&words)?;
-        Ok(Self { command, arguments, histories, builders, sets, seed, markdown })
+        Ok(Self { command, arguments, histories, builders, sets, files, seed, markdown })
     }
 
     /// Does what is asked, and says whether all is as demanded.
@@ -104,6 +111,7 @@ impl Request {
             Command::Histories => Ok(histories::run(self.histories, self.seed)),
             Command::Builders => Ok(builders::run(self.builders, self.seed)),
             Command::Umis => Ok(umis::run(self.sets, self.seed)),
+            Command::Files => Ok(files::run(self.files, self.seed)),
             Command::History(again) => Ok(again.run()),
             Command::Vectors(file) => vectors::write(file, self.seed),
             Command::Bench => Ok(bench::run(self.seed, self.markdown)),
@@ -120,6 +128,7 @@ fn command(words: &[String]) -> Result<Command, String> {
         ["histories"] => Ok(Command::Histories),
         ["builders"] => Ok(Command::Builders),
         ["umis"] => Ok(Command::Umis),
+        ["files"] => Ok(Command::Files),
         ["history", ref words @ ..] => Again::read(words).map(Command::History),
         ["vectors", file] => Ok(Command::Vectors(file.into())),
         ["bench"] => Ok(Command::Bench),

@@ -1,19 +1,19 @@
 //! UMI sets, ours beside the Rust's: strings, flags, refusals, and the caller's builder afterwards.
 
-mod call;
-mod condition;
+pub mod call;
+pub mod condition;
 mod damaged;
 mod exhaustive;
 pub mod families;
 pub mod file_form;
-mod found;
+pub mod found;
 pub mod function;
 mod named;
-mod panics;
+pub mod panics;
 mod rates;
 mod rooms;
 mod row;
-mod rust;
+pub mod rust;
 mod tally;
 
 use self::families::{FULL, KINDS, shape};

@@ -1,5 +1,6 @@
 //! The stored list of the Rust's answers, a line for each: the function's letter, the arguments' bit
-//! patterns and the answer's, in lower-case hexadecimal digits; last the lines of builders.
+//! patterns and the answer's, in lower-case hexadecimal digits; last the lines of builders and those
+//! of column files.
 
 use std::collections::HashSet;
 use std::path::Path;
@@ -12,6 +13,7 @@ use crate::arguments::{
 use crate::builders;
 use crate::difference::{Answers, stored_bits};
 use crate::environment;
+use crate::files;
 use crate::function::{FUNCTIONS, Function};
 use crate::phred;
 use crate::random::Random;
@@ -63,6 +65,7 @@ fn lists(recorded: &[Vec<f64>], seed: u64) -> Result<Vec<Lines>, String> {
     }
     lists.extend(phred::vectors::lines(seed)?);
     lists.push(builders::vectors::lines(seed)?);
+    lists.push(files::vectors::lines(seed)?);
     Ok(lists)
 }
 

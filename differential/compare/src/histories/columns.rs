@@ -6,7 +6,7 @@ use crate::random::Random;
 
 /// A base and its quality.
 pub type Observation = (u8, u8);
-type Column = Vec<Observation>;
+pub type Column = Vec<Observation>;
 
 /// A way to draw a column.
 pub struct Kind {

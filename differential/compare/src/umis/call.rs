@@ -14,7 +14,7 @@ use crate::hexadecimal::digits;
 pub const ROOM: usize = 255 + STATE_BYTES + 9;
 
 /// How many bytes on either side of the buffer are looked at, too.
-const GUARD: usize = 8;
+pub const GUARD: usize = 8;
 
 /// A call of `consensus_umi`, or of `consensus_umi_caller` where it has rates.
 #[derive(Clone, Copy)]
@@ -99,7 +99,7 @@ fn accepted(given: &Given) -> u64 {
 
 /// A buffer and the bytes beside it, as they are before a call: each unlike its neighbours, and none
 /// a letter.
-fn untouched(room: usize) -> Vec<u8> {
+pub fn untouched(room: usize) -> Vec<u8> {
     (0..room + 2 * GUARD).map(|place| 128 + (place * 37 % 128) as u8).collect()
 }
 

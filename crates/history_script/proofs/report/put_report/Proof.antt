@@ -1,6 +1,6 @@
 -- `put_report`: the builder, the calls, the number of refusals. Assumes nothing.
 use native.Mathlib.Omega.{arith}
-use Rattle.lane_calls.specs.Unanimous.{tablesOf}
+use Rattle.unanimous_shortcut.specs.Unanimous.{tablesOf}
 use Rattle.history_script.specs.Report.{reportOf}
 use Rattle.history_script.proofs.Puts.{put-then, put-length}
 use Rattle.history_script.proofs.Lengths.{builder-length, calls-length}

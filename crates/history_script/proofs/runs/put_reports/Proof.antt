@@ -8,13 +8,14 @@ use lib.Dec.{ltb}
 use lib.ListN.{length, drop, getD}
 use lib.Seq.{sets}
 use Rattle.float.specs.Ops.{if_then_else_}
-use Rattle.lane_calls.specs.Unanimous.{tablesOf}
+use Rattle.unanimous_shortcut.specs.Unanimous.{tablesOf}
 use Rattle.history_script.specs.Bytes.{Put}
-use Rattle.history_script.specs.Script.{items, questions, adjustedOf}
+use Rattle.rate_tables.specs.Adjusted.{adjustedOf}
+use Rattle.script_items.specs.Script.{items, questions}
 use Rattle.history_script.specs.Report.{reportOf}
 use Rattle.history_script.specs.Runs.{reports}
 use Rattle.history_script.proofs.Puts.{put-before, put-length}
-use Rattle.history_script.proofs.Items.{questions-at}
+use Rattle.script_items.proofs.Items.{questions-at}
 use Rattle.history_script.proofs.Lengths.{reports-length}
 use Rattle.history_script.proofs.Turns.{said-length, turn, turned}
 use borrow.Author.Needs.{needs}

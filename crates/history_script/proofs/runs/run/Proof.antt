@@ -6,8 +6,8 @@ use Prim.Native.Nat.{ℕ, _*_, _^_, _≤_, _<_}
 use borrow.Author.Tests.{not-true, not-false}
 use lib.ListN.{length}
 use Rattle.rate_tables.specs.Adjusted.{adjustedTables}
-use Rattle.rate_tables.specs.Gaps.{gapTables}
-use Rattle.history_script.specs.Script.{items}
+use Rattle.gap_tables.specs.Gaps.{gapTables}
+use Rattle.script_items.specs.Script.{items}
 use Rattle.history_script.specs.Runs.{reports, startOf, scriptBytes}
 use Rattle.history_script.proofs.Lengths.{reports-length}
 use Rattle.lent_bytes.proofs.Buffer.{fits-written, short-written}

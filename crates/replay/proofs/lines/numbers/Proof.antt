@@ -7,7 +7,7 @@ use denote.Ref.{now}
 use borrow.Author.Needs.{needs}
 use borrow.Author.Tests.{eq-eqb, ne-eqb}
 use Rattle.replay.specs.Lines.{fieldOf, startOf, fieldsFrom, numbersOf}
-use Rattle.replay.proofs.Fields.{goes-on, stops}
+use Rattle.replay.proofs.Numbers.{goes-on, stops}
 use Rattle.replay.proofs.lines.numbers.Statement.{statement}
 use Rattle.replay.proofs.lines.numbers.Tie as tie
 

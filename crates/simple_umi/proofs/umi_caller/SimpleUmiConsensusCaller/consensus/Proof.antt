@@ -7,11 +7,11 @@ use lib.ListN.{length, take, length-map}
 use Rattle.refusals.specs.Result.{Result, accepted, andThen}
 use Rattle.string_set.specs.StringSet.{readSet}
 use Rattle.simple_umi.specs.declared.answers.FlaggedAnswer.the-variants.{Given}
-use Rattle.simple_umi.specs.Consensus.{Found}
+use Rattle.simple_umi.specs.Consensus.{Found, consensusOf}
 use Rattle.simple_umi.specs.Places.{Trimmed, stringsAt, groupFound, groupResult}
 use Rattle.simple_umi.specs.Answers.{roomFor, consensusIn, flaggedOf}
 use Rattle.simple_umi.proofs.Groups.{read-refused, read-strings}
-use Rattle.simple_umi.proofs.Replies.{text-length, flagged-numbered, flagged-refused-short, ended-also, ended-refused, ended-as, ended-not-put, ended-put, consensus-in-refused, consensus-in}
+use Rattle.simple_umi.proofs.Replies.{text-length, flagged-numbered, flagged-refused-short, ended-also, ended-fits, ended-refused, ended-as, ended-not-put, ended-put, consensus-in-refused, consensus-in, consensus-fits, consensus-refused-fits}
 use Rattle.simple_umi.proofs.umi_caller.SimpleUmiConsensusCaller.consensus.Statement.{statement}
 use Rattle.simple_umi.proofs.umi_caller.SimpleUmiConsensusCaller.consensus.Tie as tie
 
@@ -41,6 +41,17 @@ set-group c =
     let s = g .before .before .before .before .before .before .before .args in
     ap (λ (t : Result Found). andThen t (roomFor (s .out .now))) (c .consensus-group .ensures .0)
     ∙ consensus-in (s .set .now) (s .out .now) (s .self .caller) _ (strings g .0)
+
+-- and a buffer of 255 bytes holds its text
+set-fits : (c : tie.After-consensus-group)
+    → 255 ≤ length (c .before .before .before .before .before .before .before .before .before .before .args .out .now)
+    → consensusIn (c .before .before .before .before .before .before .before .before .before .before .args .self .caller) (setOf (c .before .before .before))
+    (c .before .before .before .before .before .before .before .before .before .before .args .out .now)
+    ≡ andThen (readSet (setOf (c .before .before .before))) (consensusOf (c .before .before .before .before .before .before .before .before .before .before .args .self .caller))
+set-fits c h =
+    let g = c .before .before .before in
+    let s = g .before .before .before .before .before .before .before .args in
+    consensus-fits (s .set .now) (s .out .now) (s .self .caller) h _ (strings g .0) (c .consensus-group .result) (c .consensus-group .ensures .1) (c .consensus-group .ensures .0)
 
 read-requires : tie.Need-read-requires
 read-requires c κs = search needs
@@ -81,10 +92,12 @@ returns c =
     let s = g .before .before .before .before .before .before .before .args in
     let x = c .flagged-refused .result in
     let e = read-refused (s .set .now) (r .result .places) (readSet (s .set .now)) (r .result .reading) (r .ensures .0) (r .ensures .1) _ (g .reading .given .1) in
-    ended-also
+    ended-fits
+    (ended-also
     (ended-refused flaggedOf (s .self .caller) (s .out .now) (x .answer) (x .caller .caller) _ _ (consensus-in-refused (s .set .now) (s .out .now) (s .self .caller) _ e)
     (c .flagged-refused .ensures .1) (c .flagged-refused .ensures .0))
-    (flagged-refused-short (x .answer) _ (c .flagged-refused .ensures .1)) (flagged-numbered (x .answer) (consensusIn (s .self .caller) (s .set .now) (s .out .now)))
+    (flagged-refused-short (x .answer) _ (c .flagged-refused .ensures .1)) (flagged-numbered (x .answer) (consensusIn (s .self .caller) (s .set .now) (s .out .now))))
+    (λ h. consensus-refused-fits (s .set .now) (s .out .now) (s .self .caller) _ e)
 
 same-length : tie.Need-same-length
 same-length c = search needs
@@ -96,11 +109,13 @@ returns-2 c =
     let s = g .before .before .before .before .before .before .before .before .before .before .args in
     let x = c .flagged-refused2 .result in
     let k = g .consensus-group .result in
-    ended-also
+    ended-fits
+    (ended-also
     (ended-as flaggedOf (s .self .caller) (s .out .now) (x .answer) (x .caller .caller) (p .put .last .0) _ _ (set-group g)
     (ended-not-put flaggedOf (s .self .caller) (s .out .now) (x .answer) (x .caller .caller) (p .put .last .0) (k .verdict) (groupFound k)
     (p .put .result) (p .put .ensures .0) (p .put .ensures .1) _ (c .before .before .r .given .1) (c .flagged-refused2 .ensures .1) (c .flagged-refused2 .ensures .0)))
-    (flagged-refused-short (x .answer) _ (c .flagged-refused2 .ensures .1)) (flagged-numbered (x .answer) (consensusIn (s .self .caller) (s .set .now) (s .out .now)))
+    (flagged-refused-short (x .answer) _ (c .flagged-refused2 .ensures .1)) (flagged-numbered (x .answer) (consensusIn (s .self .caller) (s .set .now) (s .out .now))))
+    (set-fits g)
 
 same-length-2 : tie.Need-same-length-2
 same-length-2 c = search needs
@@ -113,12 +128,14 @@ returns-3 c =
     let k = g .consensus-group .result in
     let size : length (k .text) ≡ 255 = sym (length-map (k .text) (λ x. x)) ∙ g .consensus-group .ok .1 .1 .1 .0 .1 .0 .1 in
     let n = text-length (k .length) (k .text) (g .consensus-group .ensures .1) size in
-    ended-also
+    ended-fits
+    (ended-also
     (ended-as flaggedOf (s .self .caller) (s .out .now) _ _ (p .put .last .0) _ _ (set-group g)
     (ended-put flaggedOf (s .self .caller) (s .out .now) (Given (k .length) (k .«had_errors»)) (c .with-builder .result) (p .put .last .0) (k .verdict) (groupFound k)
     (p .put .result) (p .put .ensures .0) (p .put .ensures .1) (c .before .enum-told .given .1)
     (ap (λ (m : ℕ). Given m (k .«had_errors»)) (sym n)) (c .with-builder .ensures)))
-    (g .consensus-group .ensures .1) (flagged-numbered (Given (k .length) (k .«had_errors»)) (consensusIn (s .self .caller) (s .set .now) (s .out .now)))
+    (g .consensus-group .ensures .1) (flagged-numbered (Given (k .length) (k .«had_errors»)) (consensusIn (s .self .caller) (s .set .now) (s .out .now))))
+    (set-fits g)
 
 pub consensus-spec : {M : Type 1} → statement M
 consensus-spec =

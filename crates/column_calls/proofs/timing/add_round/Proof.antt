@@ -1,0 +1,144 @@
+-- `add_round`: the sum and what is left to add are all, at each turn. Assumes nothing.
+use native.Mathlib.Omega.{arith}
+use mathlib.Core.Path.{_≡_, refl, sym, _∙_, ap}
+use Prim.Native.Nat.{ℕ, _+_, _-_, _*_, _%_, _^_, _≤_, _<_}
+use lib.ListN.{length, take, drop}
+use Rattle.rate_tables.specs.Adjusted.{adjustedOf}
+use Rattle.unanimous_shortcut.specs.Unanimous.{tablesOf}
+use Rattle.base_builder.specs.Calls.{callOf}
+use Rattle.column_file.specs.Places.{columnsAt}
+use Rattle.column_file.proofs.ColumnWalk.{column-inside}
+use Rattle.column_calls.specs.Columns.{pairs}
+use Rattle.column_calls.specs.Times.{amountOf}
+use Rattle.column_calls.specs.Tables.{builderWith, amountsWith}
+use Rattle.column_calls.proofs.Amounts.{turn, turned-past, turned, wrapped, all-added}
+use borrow.Author.Needs.{needs}
+use Rattle.column_calls.proofs.timing.add_round.Statement.{statement}
+use Rattle.column_calls.proofs.timing.add_round.Tie as tie
+
+abbrev Inv-loop : tie.InvT-loop
+Inv-loop sum file from count start correct error-per-alt thresholds cerr-min cap total₀ place₀ left₀ total place left =
+    let t = adjustedOf correct error-per-alt in
+    let g = tablesOf thresholds cerr-min cap in
+    ((total + amountsWith t g start (columnsAt file place left)) % 2 ^ 64 ≡ (sum + amountsWith t g start (columnsAt file from count)) % 2 ^ 64)
+    × (total < 2 ^ 64)
+
+abbrev μ-loop : tie.MeasureT-loop
+μ-loop sum file from count start correct error-per-alt thresholds cerr-min cap total₀ place₀ left₀ total place left = left
+
+-- the column lies in the file
+inside : (c : tie.After-known-told Inv-loop μ-loop)
+    → c .before .next .given .0 .0 + 2 * c .before .next .given .0 .1 .0 ≤ length (c .before .before .before .before .before .before .before .args .file .now)
+inside c =
+    let l = c .before .before .before .before .before .loop in
+    let a = c .before .before .before .before .before .before .before .args in
+    let n = c .before .next .given in
+    let r = c .before .before .before .column-at in
+    column-inside (a .file .now) (l .place) (r .result) (r .ensures) (n .0 .0) (n .0 .1 .0) (n .1)
+
+loop-holds : tie.Need-loop-holds Inv-loop μ-loop
+loop-holds c = (refl, search needs)
+
+column-at-requires : tie.Need-column-at-requires Inv-loop μ-loop
+column-at-requires c κs = search needs
+
+enum-known-next : tie.Need-enum-known-next Inv-loop μ-loop
+enum-known-next c = search needs
+
+enum-told : tie.Need-enum-told Inv-loop μ-loop
+enum-told c = search needs
+
+returns : tie.Need-returns Inv-loop μ-loop
+returns c =
+    let l = c .before .before .before .before .loop in
+    let a = c .before .before .before .before .before .before .args in
+    let t = adjustedOf (a .correct .now) (a .error-per-alt .now) in
+    let g = tablesOf (a .thresholds .now) (a .cerr-min .now) (a .cap) in
+    let e = sym (c .before .before .column-at .ensures) ∙ c .enum-told .given .1 in
+    all-added (l .total) _ _ (2 ^ 64) (l .inv .1) (turned-past t g (a .start) (a .file .now) (l .place) (l .left) e) (l .inv .0)
+
+mul-end : tie.Need-mul-end Inv-loop μ-loop
+mul-end c = omega (arith, inside c)
+
+add-end : tie.Need-add-end Inv-loop μ-loop
+add-end c = omega (arith, inside c)
+
+sub-add-observations : tie.Need-sub-add-observations Inv-loop μ-loop
+sub-add-observations c = search needs
+
+part-add-observations-start : tie.Need-part-add-observations-start Inv-loop μ-loop
+part-add-observations-start c = search needs
+
+part-add-observations-end : tie.Need-part-add-observations-end Inv-loop μ-loop
+part-add-observations-end c = inside c
+
+add-observations-requires : tie.Need-add-observations-requires Inv-loop μ-loop
+add-observations-requires c κs = search needs
+
+call-with-requires : tie.Need-call-with-requires Inv-loop μ-loop
+call-with-requires c κs = search needs
+
+amount-requires : tie.Need-amount-requires Inv-loop μ-loop
+amount-requires c κs = search needs
+
+wrapping-add-u64-requires : tie.Need-wrapping-add-u64-requires Inv-loop μ-loop
+wrapping-add-u64-requires c κs = search needs
+
+sub-left : tie.Need-sub-left Inv-loop μ-loop
+sub-left c = search needs
+
+loop-less : tie.Need-loop-less Inv-loop μ-loop
+loop-less c = search needs
+
+loop-again : tie.Need-loop-again Inv-loop μ-loop
+loop-again c =
+    let at-built = c .before .before .before in
+    let at-next = at-built .before .before .before in
+    let at-loop = at-next .before .before .before .before in
+    let l = at-loop .loop in
+    let a = at-loop .before .before .args in
+    let n = at-next .next .given in
+    let s = a .file .now in
+    let t = adjustedOf (a .correct .now) (a .error-per-alt .now) in
+    let g = tablesOf (a .thresholds .now) (a .cerr-min .now) (a .cap) in
+    let e = sym (at-next .before .before .column-at .ensures) ∙ n .1 in
+    let more = amountOf (callOf g (builderWith t (a .start) (pairs (take (n .0 .0 + 2 * n .0 .1 .0 - n .0 .0) (drop (n .0 .0) s))))) in (
+      rw (c .wrapping-add-u64 .ensures, c .before .amount .ensures, c .before .before .call-with .ensures, at-built .add-observations .ensures)
+          (wrapped (l .total) more _ (2 ^ 64)
+          ∙ ap (λ (k : ℕ). (l .total + k) % 2 ^ 64)
+          (sym (turn t g (a .start) s (l .place) (l .left) (n .0 .0) (n .0 .1 .0) (at-next .before .before .before .loop-test .taken) e)) ∙ l .inv .0),
+      omega (arith, c .wrapping-add-u64 .ensures),
+    )
+
+returns-2 : tie.Need-returns-2 Inv-loop μ-loop
+returns-2 c =
+    let l = c .before .loop in
+    let a = c .before .before .before .args in
+    let t = adjustedOf (a .correct .now) (a .error-per-alt .now) in
+    let g = tablesOf (a .thresholds .now) (a .cerr-min .now) (a .cap) in
+    all-added (l .total) _ _ (2 ^ 64) (l .inv .1) (turned t g (a .start) (a .file .now) (l .place) (l .left) (omega arith)) (l .inv .0)
+
+pub add-round-spec : {M : Type 1} → statement M
+add-round-spec =
+    tie.close
+    (tie.spec
+    Inv-loop
+    μ-loop
+    loop-holds
+    column-at-requires
+    enum-known-next
+    enum-told
+    returns
+    mul-end
+    add-end
+    sub-add-observations
+    part-add-observations-start
+    part-add-observations-end
+    add-observations-requires
+    call-with-requires
+    amount-requires
+    wrapping-add-u64-requires
+    sub-left
+    loop-less
+    loop-again
+    returns-2)

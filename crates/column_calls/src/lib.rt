@@ -1,0 +1,8 @@
+// The builder of each column of a file, and its call. The tables of the file's rates are built once and
+// lent.
+mod columns;
+mod timing;
+
+pub use columns::add_observations;
+pub use columns::start;
+pub use timing::calls;

@@ -1,0 +1,137 @@
+// The columns of a file called many times, for timing.
+ghost use mathlib.Core.Path.{_≡_};
+ghost use Prim.Native.Nat.{_+_, _*_, _%_, _^_, _<_, _≤_};
+ghost use Rattle.rate_tables.specs.Adjusted.{adjustedOf};
+ghost use Rattle.unanimous_shortcut.specs.Unanimous.{tablesOf};
+ghost use Rattle.column_file.specs.Places.{columnsAt};
+ghost use Rattle.column_calls.specs.Times.{amountOf, amounts, callsOf};
+ghost use Rattle.column_calls.specs.Tables.{amountsWith};
+use crate::columns::add_observations;
+use crate::columns::start;
+use base_builder::ConsensusBaseBuilder;
+use base_builder::call_with;
+use column_file::ColumnPlace;
+use column_file::Places;
+use column_file::Reading;
+use column_file::column_at;
+use lane_calls::Call;
+use rate_tables::AdjustedProbabilityTables;
+
+fn wide(n: u8) -> u64
+    ensures { λ r. ⌜ r ≡ n ⌝ }
+    ensures { λ r. ⌜ r < 256 ⌝ }
+{
+    n as u64
+}
+
+fn amount(call: Call) -> u64
+    ensures { λ r. ⌜ r ≡ amountOf call ⌝ }
+{
+    let qual = call.qual;
+    wide(call.base) + wide(qual.0)
+}
+
+// All columns once, added to a sum: as each round takes the sum of those before it, none can be left
+// out.
+fn add_round(
+    sum: u64,
+    file: &[u8],
+    from: usize,
+    count: usize,
+    start: ConsensusBaseBuilder,
+    correct: &[f64; 94],
+    error_per_alt: &[f64; 94],
+    thresholds: &[f64; 94],
+    cerr_min: &[f64; 94],
+    cap: usize,
+) -> u64
+    ensures { λ r. ⌜ r ≡ (sum + amountsWith (adjustedOf (now (correct .entry)) (now («error_per_alt» .entry))) (tablesOf (now (thresholds .entry)) (now («cerr_min» .entry)) cap) start (columnsAt (now (file .entry)) from count)) % 2 ^ 64 ⌝ }
+{
+    let mut total = sum;
+    let mut place = from;
+    let mut left = count;
+    while 0 < left {
+        let next = column_at(file, place);
+        let ColumnPlace::At(first, n) = next else {
+            return total;
+        };
+        let end = first + 2 * n;
+        let builder = add_observations(start, &file[first..end], correct, error_per_alt);
+        let more = amount(call_with(builder, thresholds, cerr_min, cap));
+        total = std::num::wrapping_add_u64(total, more);
+        place = end;
+        left -= 1;
+    }
+    total
+}
+
+fn add_rounds(
+    times: u32,
+    file: &[u8],
+    from: usize,
+    count: usize,
+    start: ConsensusBaseBuilder,
+    correct: &[f64; 94],
+    error_per_alt: &[f64; 94],
+    thresholds: &[f64; 94],
+    cerr_min: &[f64; 94],
+    cap: usize,
+) -> u64
+    ensures { λ r. ⌜ r ≡ times * amountsWith (adjustedOf (now (correct .entry)) (now («error_per_alt» .entry))) (tablesOf (now (thresholds .entry)) (now («cerr_min» .entry)) cap) start (columnsAt (now (file .entry)) from count) % 2 ^ 64 ⌝ }
+{
+    let mut sum = 0;
+    let mut n = 0;
+    while n < times {
+        sum = add_round(
+            sum,
+            file,
+            from,
+            count,
+            start,
+            correct,
+            error_per_alt,
+            thresholds,
+            cerr_min,
+            cap,
+        );
+        n += 1;
+    }
+    sum
+}
+
+fn times_accepted(file: &[u8], places: Places, times: u32) -> u64
+    ensures { λ r. ⌜ r ≡ times * amounts (places .settings) (columnsAt (now (file .entry)) (places .columns) (places .count)) % 2 ^ 64 ⌝ }
+{
+    let settings = places.settings;
+    let pre = settings.error_rate_pre_umi;
+    let post = settings.error_rate_post_umi;
+    let adjusted = AdjustedProbabilityTables::compute(post);
+    let gaps = gap_tables::build_unanimous_gap_tables(pre);
+    let correct = adjusted.correct;
+    let error = adjusted.error_per_alt;
+    let thresholds = gaps.thresholds;
+    let cerr_min = gaps.cerr_min;
+    add_rounds(
+        times,
+        file,
+        places.columns,
+        places.count,
+        start(settings),
+        &correct,
+        &error,
+        &thresholds,
+        &cerr_min,
+        gaps.cap,
+    )
+}
+
+// All bases and qualities of the columns, called so many times and added up; 0 for a refused file.
+pub fn calls(file: &[u8], times: u32) -> u64
+    ensures { λ r. ⌜ r ≡ callsOf (now (file .entry)) times ⌝ }
+{
+    let reading = column_file::read(file);
+    match reading {
+        Reading::Refused(_) => 0,
+        Reading::Accepted(places) => times_accepted(file, places, times),
+    }
+}

@@ -1,0 +1,5 @@
+pub mod ColumnWalk
+pub mod SettingsRead
+pub mod Sections
+pub mod FileRead
+pub mod FileLayout

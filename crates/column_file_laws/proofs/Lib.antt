@@ -1,0 +1,3 @@
+pub mod Both
+pub mod ConditionLaws
+pub mod Examples

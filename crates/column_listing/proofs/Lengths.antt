@@ -1,0 +1,121 @@
+-- How long a text can be. Assumes nothing.
+use mathlib.Core.Path.{_≡_, sym, _∙_, ap, subst}
+use mathlib.Core.Bool.{Bool, true, false, _&&_, _||_}
+use mathlib.Core.List.{List, [], _∷_, _++_, map}
+use Prim.Native.Nat.{ℕ, zero, suc, _+_, _*_, _≤_, _<_}
+use native.Mathlib.Omega.{arith}
+use borrow.Author.Tests.{leb-true, eqb-true}
+use lib.Dec.{T, leb, eqb}
+use lib.Ieee.Bits.{is-true}
+use lib.ListN.{length, length-append}
+use Rattle.float.proofs.Cases.{test, both}
+use Rattle.refusals.specs.declared.Refusal.{Refusal}
+use Rattle.refusals.specs.declared.Refusal.the-variants.{FileTooLong, CutOff, BadSettings, AbsentQuality, NoStrings, LengthsDiffer, NotAscii, UnlikeFirst, Mixed, BufferTooShort}
+use Rattle.refusals.specs.Refusals.{numberOf}
+use Rattle.refusals.specs.Result.{accepted}
+use Rattle.lent_text.proofs.Decimal.{decimal-length}
+use Rattle.tie_rules.specs.Lanes.{counted}
+use Rattle.lane_calls.specs.declared.call.Call.{Call}
+use Rattle.base_builder.specs.Builder.{total}
+use Rattle.base_builder_history.specs.Demand1.{isBase, isCall}
+use Rattle.base_builder_history.proofs.Demand1.{demand1}
+use Rattle.base_builder_history.specs.History.{after}
+use Rattle.base_builder_history.proofs.Laws.{laws}
+use Rattle.simple_umi.specs.Consensus.{Found}
+use Rattle.column_file.specs.declared.file.Places.{Places}
+use Rattle.column_file.specs.declared.settings.Settings.{Settings}
+use Rattle.column_file.specs.Format.{Observation}
+use Rattle.column_file.specs.Reading.{File, readFile}
+use Rattle.column_file.specs.Places.{columnsSize}
+use Rattle.column_calls.specs.Columns.{eventOf, builderOf, columnCall}
+use Rattle.column_calls.proofs.Readings.{FileAt}
+use Rattle.listing_lines.specs.Lines.{header, lineOf, columnLine, columnLines, umiLine, textOf, refusalLine}
+use Rattle.column_listing.specs.Listing.{linesOf}
+use Rattle.column_listing.specs.Places.{placesText}
+use Rattle.column_listing.proofs.Files.{two-each, columns-inside, file-size}
+use Rattle.column_listing.proofs.Texts.{text-parts, text-is}
+
+-- of a call's line, where its number and its depth are below 100,000, its quality below 100 and its counts 32-bit numbers
+pub line-length : (i : ℕ) (call : Call) (depth : ℕ) (counts : List ℕ) → i < 100000 → call .qual .0 < 100 → depth < 100000
+    → total counts ≤ 4294967295 → length (lineOf i call depth counts) ≤ 70
+unfolding lineOf total
+line-length i call depth counts h q d n =
+    simp length-append
+    (omega (
+      arith,
+      decimal-length 5 i (omega arith) h,
+      decimal-length 2 (call .qual .0) (omega arith) q,
+      decimal-length 5 depth (omega arith) d,
+      decimal-length 10 (counted counts 0) (omega arith) (omega arith),
+      decimal-length 10 (counted counts 1) (omega arith) (omega arith),
+      decimal-length 10 (counted counts 2) (omega arith) (omega arith),
+      decimal-length 10 (counted counts 3) (omega arith) (omega arith),
+    ))
+
+-- a quality of at most 93
+call-quality : (c : Call) → isCall c ≡ true → c .qual .0 < 100
+unfolding isCall
+call-quality c h =
+    let q = c .qual .0 in
+    test (isBase (c .base) && (leb 2 q && leb q 93))
+    (λ e. omega (arith, leb-true q 93 (both (leb 2 q) (leb q 93) (both (isBase (c .base)) (leb 2 q && leb q 93) e .1) .1)))
+    (λ e. omega (arith, eqb-true q 2 (both (eqb (c .base) 78) (eqb q 2) (rw e at h) .1)))
+
+module _ (g : Settings) where
+  -- of a column's line
+  pub column-length : (i : ℕ) (c : List Observation) → i < 100000 → length c < 100000 → length (columnLine i g c) ≤ 70
+  unfolding columnLine columnCall builderOf
+  column-length i c h k =
+      let pre = g .«error_rate_pre_umi» .0 in
+      let post = g .«error_rate_post_umi» .0 in
+      let es = map eventOf c in
+      let b = after pre post (g .«tie_rule») es in
+      line-length i (columnCall g c) (length c) (builderOf g c .observations) h (call-quality (columnCall g c) (is-true _ (demand1 pre b .call))) k
+      (laws pre post (g .«tie_rule») es .most)
+
+  -- of all of them, which take at most 65,536 bytes
+  pub columns-length : (i : ℕ) (cs : List (List Observation)) → i + length cs ≤ 100000 → columnsSize cs ≤ 65536 → length (textOf (columnLines i g cs)) ≤ 70 * length cs
+  unfolding columnLines columnsSize
+  columns-length i [] h k = omega arith
+  columns-length i (c ∷ cs) h k =
+      rw (length-append) (omega (arith, column-length i c (omega arith) (omega arith), columns-length (i + 1) cs (omega arith) (omega arith)))
+
+-- of the last line
+pub umi-length : (text : List ℕ) (flag : Bool) → length (umiLine text flag) ≤ 11 + length text
+unfolding umiLine
+umi-length text true = simp length-append (omega arith)
+umi-length text false = simp length-append (omega arith)
+
+-- the numbers of refusals
+number-small : (r : Refusal) → numberOf r < 100
+number-small FileTooLong = omega arith
+number-small CutOff = omega arith
+number-small BadSettings = omega arith
+number-small AbsentQuality = omega arith
+number-small NoStrings = omega arith
+number-small LengthsDiffer = omega arith
+number-small NotAscii = omega arith
+number-small UnlikeFirst = omega arith
+number-small Mixed = omega arith
+number-small BufferTooShort = omega arith
+
+-- of a refused file's line
+pub refusal-length : (r : Refusal) → length (refusalLine r) ≤ 11
+unfolding refusalLine
+refusal-length r = simp length-append (omega (arith, decimal-length 2 (numberOf r) (omega arith) (number-small r)))
+
+-- of all lines of an accepted file
+pub text-length : (s : List ℕ) (f : File) (u : Found) → readFile s ≡ accepted f → length (textOf (linesOf f u)) ≤ 45 + 70 * length (f .columns) + length (u .text)
+text-length s f u e =
+    let i = columns-inside s f e in
+    let n = file-size s f e in
+    let two = two-each (f .columns) in
+    rw (text-parts f u)
+    (simp length-append (omega (arith, columns-length (f .settings) 1 (f .columns) (omega arith) (omega arith), umi-length (u .text) (u .hadErrors))))
+
+-- and so by the places, with a string of at most 255 bytes
+pub places-length : (s : List ℕ) (p : Places) (a : FileAt (readFile s) p) (u : Found) → length (u .text) ≤ 255
+    → length (placesText p s (u .text) (u .hadErrors)) ≤ 300 + 70 * p .count
+places-length s p a u h =
+    let n : p .count ≡ length (a .file .columns) = rw (a .places) in
+    rw (text-is s p a u) (omega (arith, text-length s (a .file) u (a .is)))

@@ -1,0 +1,116 @@
+-- 2,400,000 bytes hold the listing of every file, and of every list of numbers whatever. Assumes nothing.
+use mathlib.Core.Path.{_≡_, refl, sym, _∙_, ap, subst}
+use mathlib.Core.List.{List, [], _∷_}
+use Prim.Native.Nat.{ℕ, zero, suc, _+_, _≤_}
+use native.Mathlib.Omega.{arith}
+use lib.Dec.{leb, ltb}
+use lib.ListN.{length, take, drop, length-take, length-drop}
+use Rattle.float.proofs.Cases.{choice}
+use Rattle.refusals.specs.declared.Verdict.{Verdict}
+use Rattle.refusals.specs.declared.Verdict.the-variants.{Sound, Refused}
+use Rattle.refusals.specs.Result.{Result, refused, accepted, andThen, judged}
+use Rattle.string_set.specs.Readers.{Taken, taken, short, next, byte, front, many, alone}
+use Rattle.string_set.specs.StringSet.{string, stringSet, readSet}
+use Rattle.simple_umi.specs.declared.caller.SimpleConsensusCaller.{SimpleConsensusCaller}
+use Rattle.simple_umi.specs.Strings.{firstOf}
+use Rattle.simple_umi.specs.Verdicts.{consensusVerdict}
+use Rattle.simple_umi.specs.Consensus.{Found, defaultCaller, found, consensusOf}
+use Rattle.simple_umi_laws.proofs.AnswerLaws.{answered, no-refusal}
+use Rattle.column_file.specs.Reading.{File, readFile}
+use Rattle.column_file.specs.Places.{columnsSize}
+use Rattle.listing_lines.specs.Lines.{textOf}
+use Rattle.column_listing.specs.Listing.{linesOf, listed, printed, listingOf}
+use Rattle.column_listing.proofs.Files.{two-each, columns-inside, file-size, strings-there}
+use Rattle.column_listing.proofs.Lengths.{text-length, refusal-length}
+
+-- ---- the first string of a set is no longer than the set
+
+-- a string read off the front of so many bytes
+abbrev Within : ℕ → Taken (List ℕ) → Type 0
+Within m short = Unit {0}
+Within m (taken t r) = length t ≤ m
+
+string-within : (r : List ℕ) → Within (length r) (string r)
+unfolding string byte front
+string-within [] = tt
+string-within (n ∷ r) =
+    choice (Within (suc (length r))) (leb n (length r)) (taken (take n r) (drop n r)) short (λ h. rw (length-take n r) (omega arith)) (λ h. tt)
+
+-- and the first of some
+abbrev First : ℕ → Taken (List (List ℕ)) → Type 0
+First m short = Unit {0}
+First m (taken l r) = length (firstOf l) ≤ m
+
+first-more : (m : ℕ) (t : List ℕ) (q : Taken (List (List ℕ))) → length t ≤ m → First m (next q (λ l r. taken (t ∷ l) r))
+first-more m t short h = tt
+first-more m t (taken l r) h = h
+
+first-next : (m n : ℕ) (q : Taken (List ℕ)) → Within m q → First m (next q (λ t s. next (many string n s) (λ l r. taken (t ∷ l) r)))
+first-next m n short h = tt
+first-next m n (taken t s) h = first-more m t (many string n s) h
+
+first-many : (n : ℕ) (r : List ℕ) → First (length r) (many string n r)
+unfolding many
+first-many zero r = omega arith
+first-many (suc n) r = first-next (length r) n (string r) (string-within r)
+
+weaker : (m : ℕ) (q : Taken (List (List ℕ))) → First m q → First (suc m) q
+weaker m short h = tt
+weaker m (taken l r) h = omega arith
+
+first-set : (s : List ℕ) → First (length s) (stringSet s)
+unfolding stringSet byte
+first-set [] = tt
+first-set (n ∷ r) = weaker (length r) (many string n r) (first-many n r)
+
+-- the same of a set's answer
+abbrev Read : ℕ → Result (List (List ℕ)) → Type 0
+Read m (refused r) = Unit {0}
+Read m (accepted l) = length (firstOf l) ≤ m
+
+first-alone : (m : ℕ) (q : Taken (List (List ℕ))) → First m q → Read m (alone q)
+first-alone m short h = tt
+first-alone m (taken l []) h = h
+first-alone m (taken l (x ∷ r)) h = tt
+
+first-read : (s : List ℕ) → Read (length s) (readSet s)
+unfolding readSet
+first-read s = choice (Read (length s)) (ltb 65536 (length s)) _ _ (λ h. tt) (λ h. first-alone (length s) (stringSet s) (first-set s))
+
+-- ---- the consensus is as long as the first string
+
+answer-length : (c : SimpleConsensusCaller) (strings : List (List ℕ)) (v : Verdict) (u : Found)
+    → judged v (found c strings) ≡ accepted u → length (u .text) ≡ length (firstOf strings)
+answer-length c strings (Refused r) u e = no-refusal e
+answer-length c strings Sound u e =
+    let same : found c strings ≡ u = cc in
+    ap (λ (x : Found). length (x .text)) (sym same) ∙ answered c strings .as-long
+
+module _ (s : List ℕ) where
+  pub consensus-length : (f : File) (u : Found) → readFile s ≡ accepted f → consensusOf defaultCaller (f .strings) ≡ accepted u
+      → columnsSize (f .columns) + length (u .text) ≤ 65536
+  consensus-length f u e k =
+      let at = 6 + columnsSize (f .columns) in
+      let first : length (firstOf (f .strings)) ≤ length (drop at s) = subst (Read (length (drop at s))) (strings-there s f e) (first-read (drop at s)) in
+      omega (
+        arith,
+        answer-length defaultCaller (f .strings) (consensusVerdict (f .strings)) u k,
+        first,
+        length-drop at s,
+        columns-inside s f e,
+        file-size s f e,
+      )
+
+  by-strings : (f : File) → readFile s ≡ accepted f → (t : Result Found) → consensusOf defaultCaller (f .strings) ≡ t
+      → length (printed (andThen t (λ u. accepted (textOf (linesOf f u))))) ≤ 2400000
+  by-strings f e (refused r) k = omega (arith, refusal-length r)
+  by-strings f e (accepted u) k = omega (arith, text-length s f u e, consensus-length f u e k, two-each (f .columns))
+
+  by-file : (t : Result File) → readFile s ≡ t
+      → length (printed (andThen t (λ f. andThen (consensusOf defaultCaller (f .strings)) (λ u. accepted (textOf (linesOf f u)))))) ≤ 2400000
+  by-file (refused r) e = omega (arith, refusal-length r)
+  by-file (accepted f) e = by-strings f e (consensusOf defaultCaller (f .strings)) refl
+
+pub fits : (s : List ℕ) → length (listingOf s) ≤ 2400000
+unfolding listingOf listed
+fits s = by-file s (readFile s) refl

@@ -1,0 +1,249 @@
+-- What the functions reply and leave in the buffer, by what the caller answers and by what is listed. Assumes nothing.
+use mathlib.Core.Path.{_≡_, refl, sym, _∙_, ap, subst}
+use mathlib.Core.Bool.{Bool, true, false, not}
+use mathlib.Core.List.{List, [], _∷_, _++_}
+use Prim.Native.Nat.{ℕ, _≤_}
+use native.Mathlib.Omega.{arith}
+use borrow.Author.Tests.{not-true, not-false, le-leb, le-ltb, lt-ltb, leb-true, leb-false, ltb-true}
+use lib.Dec.{leb, ltb}
+use lib.ListN.{length, take, drop}
+use lib.Seq.{take-append-seam}
+use Rattle.float.proofs.Cases.{test, choice}
+use Rattle.lent_bytes.specs.Buffer.{written}
+use Rattle.lent_bytes.proofs.Buffer.{short-written}
+use Rattle.lent_text.specs.Printed.{Printed}
+use Rattle.lent_text.proofs.Printed.{printed-as, printed-written}
+use Rattle.refusals.specs.declared.Refusal.{Refusal}
+use Rattle.refusals.specs.declared.Refusal.the-variants.{BufferTooShort}
+use Rattle.refusals.specs.Refusals.{numberIn}
+use Rattle.refusals.specs.Result.{Result, refused, accepted, andThen}
+use Rattle.rate_tables.specs.declared.adjusted.AdjustedProbabilityTables.{AdjustedProbabilityTables}
+use Rattle.gap_tables.specs.declared.gaps.UnanimousGapTables.{UnanimousGapTables}
+use Rattle.rate_tables.specs.Adjusted.{adjustedTables}
+use Rattle.gap_tables.specs.Gaps.{gapTables}
+use Rattle.base_builder.specs.declared.builder.ConsensusBaseBuilder.{ConsensusBaseBuilder}
+use Rattle.string_set.specs.StringSet.{readSet}
+use Rattle.simple_umi.specs.declared.answers.FlaggedAnswer.{FlaggedAnswer}
+use Rattle.simple_umi.specs.declared.answers.FlaggedAnswer.the-variants as answer
+use Rattle.simple_umi.specs.declared.caller.SimpleConsensusCaller.{SimpleConsensusCaller}
+use Rattle.simple_umi.specs.Consensus.{Found, defaultCaller, consensusOf}
+use Rattle.simple_umi.specs.Answers.{consensusIn, flaggedOf, flaggedLength, bufferAfter}
+use Rattle.column_file.specs.declared.file.Places.{Places}
+use Rattle.column_file.specs.Reading.{readFile}
+use Rattle.column_file.specs.Places.{columnsAt}
+use Rattle.column_calls.specs.Columns.{startOf}
+use Rattle.column_calls.proofs.Readings.{FileAt}
+use Rattle.listing_lines.specs.Lines.{refusalLine}
+use Rattle.listing_lines.specs.Tables.{textWith}
+use Rattle.column_listing.specs.declared.listing.Listing.{Listing}
+use Rattle.column_listing.specs.declared.listing.Listing.the-variants as listing
+use Rattle.column_listing.specs.declared.listing.Outcome.{Outcome}
+use Rattle.column_listing.specs.declared.listing.Outcome.the-variants as outcome
+use Rattle.column_listing.specs.Listing.{listed, printed, listingOf}
+use Rattle.column_listing.specs.Answers.{roomFor, listedIn, listingAnswer, listingNumber, listingBuffer, outcomeOf, replied}
+use Rattle.column_listing.specs.Places.{placesText}
+use Rattle.column_listing.proofs.Files.{strings-read}
+use Rattle.column_listing.proofs.Texts.{text-is}
+
+-- ---- a text and its room
+
+-- with the tables of the settings' rates and a new builder
+pub with-tables : (p : Places) (s text : List ℕ) (flag : Bool) (t : AdjustedProbabilityTables) (g : UnanimousGapTables) (b : ConsensusBaseBuilder)
+    → t ≡ adjustedTables (p .settings .«error_rate_post_umi» .0) → g ≡ gapTables (p .settings .«error_rate_pre_umi» .0) → b ≡ startOf (p .settings)
+    → textWith t g b (columnsAt s (p .columns) (p .count)) text flag ≡ placesText p s text flag
+unfolding placesText
+with-tables p s text flag t g b e k h = rw (e, k, h)
+
+-- with the same string and flag
+pub same-text : (p : Places) (s : List ℕ) {l m : List ℕ} {f g : Bool} → l ≡ m → f ≡ g → placesText p s l f ≡ placesText p s m g
+same-text p s e k = rw (e, k)
+
+-- a text that is short enough whatever its length is
+pub fits-short : (n most room : ℕ) → n ≤ most → most ≤ room → true ≡ leb n room
+fits-short n most room h k = sym (le-leb n room (omega arith))
+
+-- by the test of a text u, which is t in other words
+module _ (t out u : List ℕ) (e : u ≡ t) (b : Bool) (k : b ≡ leb (length u) (length out)) where
+  tested : b ≡ leb (length t) (length out)
+  tested = k ∙ ap (λ (x : List ℕ). leb (length x) (length out)) e
+
+  -- too long
+  pub outcome-short : not b ≡ true → (outcome.TooShort ≡ outcomeOf out (accepted t)) × (out ≡ written t out)
+  outcome-short h =
+      let f : leb (length t) (length out) ≡ false = sym tested ∙ not-true b h in
+      (rw f, short-written t out (leb-false (length t) (length out) f))
+
+  -- printed
+  pub outcome-put : not b ≡ false → (w : ℕ) (o : List ℕ) → Printed out 0 u o w → (outcome.Written w ≡ outcomeOf out (accepted t)) × (o ≡ written t out)
+  outcome-put h w o p =
+      let f : leb (length t) (length out) ≡ true = sym tested ∙ not-false b h in
+      let q = printed-written (printed-as p e) (leb-true (length t) (length out) f) in
+      (rw (f, q .0), q .1)
+
+module _ (t out : List ℕ) where
+  -- the front of the buffer, where it fits
+  pub written-front : length t ≤ length out → take (length t) (written t out) ≡ t
+  unfolding written
+  written-front h = rw (le-leb (length t) (length out) h) (take-append-seam t (drop (length t) out))
+
+  room-buffer : listingBuffer out (roomFor out t) ≡ written t out
+  unfolding roomFor
+  room-buffer = test (ltb (length out) (length t)) (λ e. rw e (short-written t out (ltb-true (length out) (length t) e))) (λ e. rw e)
+
+-- the front of a buffer that a text was printed into
+pub printed-front : {o o1 t : List ℕ} {w : ℕ} → Printed o 0 t o1 w → length t ≤ length o → take w o1 ≡ t
+printed-front {o} {o1} {t} {w} p h =
+    let q = printed-written p h in
+    rw (q .0, q .1) (written-front t o h)
+
+-- ---- the answer to a file's strings
+
+-- accepted, with a string of this length and this flag
+pub record AnsweredAs (t : Result Found) (n : ℕ) (flag : Bool) : Type 0 where
+  pub found : Found
+  pub is : t ≡ accepted found
+  pub size : n ≡ length (found .text)
+  pub flagged : flag ≡ found .hadErrors
+
+-- what an answer says of a result
+abbrev Said : Result Found → FlaggedAnswer → Type 0
+Said t (answer.Refused r) = t ≡ refused r
+Said t (answer.Given n flag) = AnsweredAs t n flag
+
+-- and that is so of its own answer
+by-answer : (t : Result Found) → Said t (flaggedOf t)
+by-answer (refused r) = refl
+by-answer (accepted u) = record { found = u; is = refl; size = refl; flagged = refl }
+
+module _ (t : Result Found) (g : FlaggedAnswer) (e : g ≡ flaggedOf t) where
+  pub said-refused : (r : Refusal) → g ≡ answer.Refused r → t ≡ refused r
+  said-refused r h = subst (Said t) (sym e ∙ h) (by-answer t)
+
+  pub said-given : (n : ℕ) (flag : Bool) → g ≡ answer.Given n flag → AnsweredAs t n flag
+  said-given n flag h = subst (Said t) (sym e ∙ h) (by-answer t)
+
+-- no string is longer than the caller says
+pub given-short : (g : FlaggedAnswer) (n : ℕ) (flag : Bool) → g ≡ answer.Given n flag → flaggedLength g ≤ 255 → n ≤ 255
+given-short g n flag e h = subst (λ (x : FlaggedAnswer). flaggedLength x ≤ 255) e h
+
+-- the string is at the front of the caller's buffer
+pub string-there : (t : Result Found) (out o : List ℕ) (n : ℕ) (flag : Bool) (a : AnsweredAs t n flag) → o ≡ bufferAfter out t → n ≤ length out
+    → take n o ≡ a .found .text
+string-there t out o n flag a e h =
+    let b : o ≡ written (a .found .text) out = e ∙ ap (bufferAfter out) (a .is) in
+    let k : length (a .found .text) ≤ length out = rw (a .size) at h in
+    rw (b, a .size) (written-front (a .found .text) out k)
+
+-- a file that is refused
+pub file-refused : (s : List ℕ) (r : Refusal) → readFile s ≡ refused r → listed s ≡ refused r
+unfolding listed
+file-refused s r e = rw e
+
+module _ (s : List ℕ) (p : Places) (a : FileAt (readFile s) p) where
+  -- with a buffer of 255 bytes, at the defaults
+  module _ (set out : List ℕ) (c : SimpleConsensusCaller) (k : set ≡ drop (p .strings) s) (e : c ≡ defaultCaller)
+      (h : consensusIn c set out ≡ andThen (readSet set) (consensusOf c)) where
+    consensus-said : consensusIn c set out ≡ consensusOf defaultCaller (a .file .strings)
+    consensus-said = h ∙ rw (k, strings-read s p a, e)
+
+    pub answer-said : (g : FlaggedAnswer) (o : List ℕ) → g ≡ flaggedOf (consensusIn c set out) → o ≡ bufferAfter out (consensusIn c set out)
+        → (g ≡ flaggedOf (consensusOf defaultCaller (a .file .strings))) × (o ≡ bufferAfter out (consensusOf defaultCaller (a .file .strings)))
+    answer-said g o i j = (i ∙ ap flaggedOf consensus-said, j ∙ ap (bufferAfter out) consensus-said)
+
+  -- so a file is listed
+  pub listed-refused : (r : Refusal) → consensusOf defaultCaller (a .file .strings) ≡ refused r → listed s ≡ refused r
+  unfolding listed
+  listed-refused r e = rw (a .is, e)
+
+  pub listed-accepted : (u : Found) → consensusOf defaultCaller (a .file .strings) ≡ accepted u → listed s ≡ accepted (placesText p s (u .text) (u .hadErrors))
+  unfolding listed
+  listed-accepted u e = rw (a .is, e, text-is s p a u)
+
+-- ---- the replies
+
+module _ (s out : List ℕ) where
+  -- what is refused leaves the buffer as it was
+  pub refused-reply : (r : Refusal) → listed s ≡ refused r → (outcome.Refused r ≡ outcomeOf out (listed s)) × (out ≡ listingBuffer out (listedIn s out))
+  unfolding listedIn
+  refused-reply r e = (rw e, rw e)
+
+  -- and a text is written where it fits, which is u in other words
+  pub accepted-reply : (t u : List ℕ) (o : Outcome) (l : List ℕ) → listed s ≡ accepted t → u ≡ t → o ≡ outcomeOf out (accepted u) → l ≡ written u out
+      → (o ≡ outcomeOf out (listed s)) × (l ≡ listingBuffer out (listedIn s out))
+  unfolding listedIn
+  accepted-reply t u o l e f k h = (rw (e, ← f) k, rw (e, ← f) (h ∙ sym (room-buffer u out)))
+
+-- 10 has its number
+abbrev pub replyOf : Outcome → Listing
+replyOf (outcome.Refused r) = listing.Refused r
+replyOf outcome.TooShort = listing.Refused BufferTooShort
+replyOf (outcome.Written n) = listing.Given n
+
+reply-is : (out : List ℕ) (t : Result (List ℕ)) → replyOf (outcomeOf out t) ≡ listingAnswer (andThen t (roomFor out))
+unfolding roomFor
+reply-is out (refused r) = refl
+reply-is out (accepted t) =
+    test (leb (length t) (length out))
+    (λ e. rw (e, le-ltb (length out) (length t) (leb-true (length t) (length out) e)))
+    (λ e. rw (e, lt-ltb (length out) (length t) (leb-false (length t) (length out) e)))
+
+number-is : (t : Result (List ℕ)) → listingNumber (listingAnswer t) ≡ numberIn t
+number-is (refused r) = refl
+number-is (accepted t) = refl
+
+-- what an outcome says of what is printed
+abbrev Ended : List ℕ → Result (List ℕ) → Outcome → Type 0
+Ended out t (outcome.Refused r) = t ≡ refused r
+Ended out t outcome.TooShort = (0 ≡ replied (printed t) out) × (listingBuffer out (andThen t (roomFor out)) ≡ written (printed t) out)
+Ended out t (outcome.Written n) = (n ≡ replied (printed t) out) × (listingBuffer out (andThen t (roomFor out)) ≡ written (printed t) out)
+
+by-outcome : (out : List ℕ) (t : Result (List ℕ)) → Ended out t (outcomeOf out t)
+unfolding replied
+by-outcome out (refused r) = refl
+by-outcome out (accepted t) =
+    choice (Ended out (accepted t)) (leb (length t) (length out)) (outcome.Written (length t)) outcome.TooShort
+    (λ e. (rw e, room-buffer t out)) (λ e. (rw e, room-buffer t out))
+
+-- by the outcome of the file, and what it left in the buffer
+module _ (s out mid : List ℕ) (o : Outcome) (e : o ≡ outcomeOf out (listed s)) (k : mid ≡ listingBuffer out (listedIn s out)) where
+  pub list-reply : (r : Listing) → replyOf o ≡ r
+      → (r ≡ listingAnswer (listedIn s out)) × ((mid ≡ listingBuffer out (listedIn s out)) × (listingNumber r ≡ numberIn (listedIn s out)))
+  unfolding listedIn
+  list-reply r h =
+      let answer : r ≡ listingAnswer (listedIn s out) = sym h ∙ ap replyOf e ∙ reply-is out (listed s) in
+      (answer, (k, ap listingNumber answer ∙ number-is (listedIn s out)))
+
+  -- the line of a refused file goes into a buffer that is still as it was
+  pub print-refused : (r : Refusal) (n : ℕ) (l : List ℕ) → o ≡ outcome.Refused r → n ≡ replied (refusalLine r) mid → l ≡ written (refusalLine r) mid
+      → (n ≡ replied (listingOf s) out) × (l ≡ written (listingOf s) out)
+  unfolding listedIn listingOf
+  print-refused r n l h i j =
+      let z : listed s ≡ refused r = subst (Ended out (listed s)) (sym e ∙ h) (by-outcome out (listed s)) in
+      let same : mid ≡ out = k ∙ ap (λ (t : Result (List ℕ)). listingBuffer out (andThen t (roomFor out))) z in
+      (i ∙ rw (z, same), j ∙ rw (z, same))
+
+  pub print-short : o ≡ outcome.TooShort → (0 ≡ replied (listingOf s) out) × (mid ≡ written (listingOf s) out)
+  unfolding listedIn listingOf
+  print-short h =
+      let z : Ended out (listed s) outcome.TooShort = subst (Ended out (listed s)) (sym e ∙ h) (by-outcome out (listed s)) in
+      (z .0, k ∙ z .1)
+
+  pub print-written : (n : ℕ) → o ≡ outcome.Written n → (n ≡ replied (listingOf s) out) × (mid ≡ written (listingOf s) out)
+  unfolding listedIn listingOf
+  print-written n h =
+      let z : Ended out (listed s) (outcome.Written n) = subst (Ended out (listed s)) (sym e ∙ h) (by-outcome out (listed s)) in
+      (z .0, k ∙ z .1)
+
+-- a line put at the front of a buffer
+module _ (t out bs l : List ℕ) (n : ℕ) (b : Bool) (e : bs ≡ t) (k : n ≡ length t) (h : b ≡ leb (length bs) (length out)) (w : l ≡ written bs out) where
+  pub line-put : b ≡ true → (n ≡ replied t out) × (l ≡ written t out)
+  unfolding replied
+  line-put y =
+      let i : leb (length t) (length out) ≡ true = ap (λ (x : List ℕ). leb (length x) (length out)) (sym e) ∙ sym h ∙ y in
+      (rw i k, w ∙ ap (λ (x : List ℕ). written x out) e)
+
+  pub line-not-put : b ≡ false → (0 ≡ replied t out) × (l ≡ written t out)
+  unfolding replied
+  line-not-put y =
+      let i : leb (length t) (length out) ≡ false = ap (λ (x : List ℕ). leb (length x) (length out)) (sym e) ∙ sym h ∙ y in
+      (rw i, w ∙ ap (λ (x : List ℕ). written x out) e)

@@ -1,0 +1,43 @@
+-- The text of a file's bytes and places is the text of all its lines. Assumes nothing.
+use mathlib.Core.Path.{_≡_, refl, sym, _∙_, ap}
+use mathlib.Core.Bool.{Bool}
+use mathlib.Core.List.{List, [], _∷_, _++_, append-nil, append-assoc}
+use Prim.Native.Nat.{ℕ, _+_}
+use Rattle.rate_tables.specs.Adjusted.{adjustedTables}
+use Rattle.gap_tables.specs.Gaps.{gapTables}
+use Rattle.simple_umi.specs.Consensus.{Found}
+use Rattle.column_file.specs.declared.file.Places.{Places}
+use Rattle.column_file.specs.declared.settings.Settings.{Settings}
+use Rattle.column_file.specs.Format.{Observation}
+use Rattle.column_file.specs.Reading.{File, readFile}
+use Rattle.column_file.specs.Places.{columnsAt}
+use Rattle.column_calls.specs.Columns.{startOf, columnCall}
+use Rattle.column_calls.proofs.Readings.{FileAt, columns-read}
+use Rattle.column_calls.proofs.Tables.{builder-with}
+use Rattle.listing_lines.specs.Lines.{header, columnLine, columnLines, umiLine, textOf}
+use Rattle.listing_lines.specs.Tables.{linesWith, textWith}
+use Rattle.column_listing.specs.Listing.{linesOf}
+use Rattle.column_listing.specs.Places.{placesText}
+
+-- with the tables of the settings' rates, and a new builder at the settings
+module _ (g : Settings) where
+  pub lines-with : (i : ℕ) (cs : List (List Observation))
+      → linesWith (adjustedTables (g .«error_rate_post_umi» .0)) (gapTables (g .«error_rate_pre_umi» .0)) (startOf g) i cs ≡ columnLines i g cs
+  unfolding linesWith columnLines columnLine columnCall
+  lines-with i [] = refl
+  lines-with i (c ∷ cs) = rw (builder-with g c, lines-with (i + 1) cs)
+
+-- lines after lines
+pub text-append : (a b : List (List ℕ)) → textOf (a ++ b) ≡ textOf a ++ textOf b
+text-append [] b = refl
+text-append (l ∷ a) b = rw (text-append a b, append-assoc l (textOf a) (textOf b))
+
+-- the text of all lines, by its three parts
+pub text-parts : (f : File) (u : Found) → textOf (linesOf f u) ≡ header ++ textOf (columnLines 1 (f .settings) (f .columns)) ++ umiLine (u .text) (u .hadErrors)
+unfolding linesOf
+text-parts f u = rw (text-append (columnLines 1 (f .settings) (f .columns)) (umiLine (u .text) (u .hadErrors) ∷ []), append-nil (umiLine (u .text) (u .hadErrors)))
+
+pub text-is : (s : List ℕ) (p : Places) (a : FileAt (readFile s) p) (u : Found) → placesText p s (u .text) (u .hadErrors) ≡ textOf (linesOf (a .file) u)
+unfolding placesText textWith
+text-is s p a u =
+    rw (lines-with (p .settings) 1 (columnsAt s (p .columns) (p .count)), columns-read s p a, a .places) (sym (text-parts (a .file) u))

@@ -1,0 +1,74 @@
+-- `print_refusal`: the line is short enough for the array aside, and is put where it fits. Assumes nothing.
+use mathlib.Core.Path.{_≡_, sym, _∙_, ap}
+use Prim.Native.Nat.{_≤_}
+use native.Mathlib.Omega.{arith}
+use borrow.Author.Needs.{needs}
+use lib.ListN.{length, take}
+use Rattle.listing_lines.specs.Lines.{refusalLine}
+use Rattle.lent_text.proofs.Printed.{printed-length, printed-written}
+use Rattle.column_listing.proofs.Lengths.{refusal-length}
+use Rattle.column_listing.proofs.Outcomes.{printed-front, line-put, line-not-put}
+use Rattle.column_listing.proofs.listing.print_refusal.Statement.{statement}
+use Rattle.column_listing.proofs.listing.print_refusal.Tie as tie
+
+-- the line is as long as was counted, and stands at the front
+line-there : (c : tie.After-put-refusal)
+    → let t = refusalLine (c .before .before .before .args .refusal) in
+    (c .put-refusal .result ≡ length t) × (take (c .put-refusal .result) (c .put-refusal .last .0) ≡ t)
+line-there c =
+    let p = c .put-refusal .ensures in
+    let n = refusal-length (c .before .before .before .args .refusal) in
+    (printed-written p (omega arith) .0, printed-front p (omega arith))
+
+slice-aggregate-put-refusal : tie.Need-slice-aggregate-put-refusal
+slice-aggregate-put-refusal c = search needs
+
+put-refusal-requires : tie.Need-put-refusal-requires
+put-refusal-requires c κs = search needs
+
+array-share-prefix-aside : tie.Need-array-share-prefix-aside
+array-share-prefix-aside c =
+    let p = c .before .before in
+    omega (arith, line-there p .0, refusal-length (p .before .before .before .args .refusal), printed-length (p .put-refusal .ensures))
+
+slice-aggregate-write-front : tie.Need-slice-aggregate-write-front
+slice-aggregate-write-front c =
+    let p = c .before .before .before in
+    line-there p .0 ∙ sym (ap length (line-there p .1))
+
+write-front-requires : tie.Need-write-front-requires
+write-front-requires c κs = search needs
+
+same-length : tie.Need-same-length
+same-length c = search needs
+
+returns : tie.Need-returns
+returns c =
+    let p = c .before .before .before .before .before .before .before in
+    let w = c .before .before .before .write-front in
+    line-put (refusalLine (p .before .before .before .args .refusal)) (p .before .before .before .args .out .now) _ (w .last .0) (p .put-refusal .result) (w .result)
+    (line-there p .1) (line-there p .0) (w .ensures .0) (w .ensures .1) (c .if1 .taken)
+
+same-length-2 : tie.Need-same-length-2
+same-length-2 c = search needs
+
+returns-2 : tie.Need-returns-2
+returns-2 c =
+    let p = c .before .before .before .before .before .before .before in
+    let w = c .before .before .before .write-front in
+    line-not-put (refusalLine (p .before .before .before .args .refusal)) (p .before .before .before .args .out .now) _ (w .last .0) (p .put-refusal .result) (w .result)
+    (line-there p .1) (line-there p .0) (w .ensures .0) (w .ensures .1) (c .if1 .left)
+
+pub print-refusal-spec : {M : Type 1} → statement M
+print-refusal-spec =
+    tie.close
+    (tie.spec
+    slice-aggregate-put-refusal
+    put-refusal-requires
+    array-share-prefix-aside
+    slice-aggregate-write-front
+    write-front-requires
+    same-length
+    returns
+    same-length-2
+    returns-2)

@@ -1,0 +1,53 @@
+-- What the functions reply, and what the lent buffer holds afterwards. Definitions only.
+use Prim.Native.Nat.{ℕ}
+use mathlib.Core.List.{List}
+use lib.Dec.{ltb, leb}
+use lib.ListN.{length}
+use Rattle.float.specs.Ops.{if_then_else_}
+use Rattle.lent_bytes.specs.Buffer.{written}
+use Rattle.refusals.specs.declared.Refusal.the-variants.{BufferTooShort}
+use Rattle.refusals.specs.Refusals.{numberOf}
+use Rattle.refusals.specs.Result.{Result, refused, accepted, andThen}
+use Rattle.column_listing.specs.declared.listing.Listing.{Listing}
+use Rattle.column_listing.specs.declared.listing.Listing.the-variants as listing
+use Rattle.column_listing.specs.declared.listing.Outcome.{Outcome}
+use Rattle.column_listing.specs.declared.listing.Outcome.the-variants as outcome
+use Rattle.column_listing.specs.Listing.{listed}
+
+-- 10 comes last: the buffer is shorter than the text
+unfoldable pub roomFor : List ℕ → List ℕ → Result (List ℕ)
+roomFor out t =
+    if ltb (length out) (length t) then refused BufferTooShort
+    else accepted t
+
+-- of a file's bytes and a buffer
+unfoldable pub listedIn : List ℕ → List ℕ → Result (List ℕ)
+listedIn s out = andThen (listed s) (roomFor out)
+
+-- the reply: a refusal, or the text's length
+abbrev pub listingAnswer : Result (List ℕ) → Listing
+listingAnswer (refused r) = listing.Refused r
+listingAnswer (accepted t) = listing.Given (length t)
+
+-- document 01's number of a reply, 0 for one that is no refusal
+abbrev pub listingNumber : Listing → ℕ
+listingNumber (listing.Refused r) = numberOf r
+listingNumber (listing.Given n) = 0
+
+-- the buffer afterwards: a refusal leaves it as it was
+abbrev pub listingBuffer : List ℕ → Result (List ℕ) → List ℕ
+listingBuffer out (refused r) = out
+listingBuffer out (accepted t) = written t out
+
+-- the same before 10 has its number: a text that does not fit is not written
+abbrev pub outcomeOf : List ℕ → Result (List ℕ) → Outcome
+outcomeOf out (refused r) = outcome.Refused r
+outcomeOf out (accepted t) =
+    if leb (length t) (length out) then outcome.Written (length t)
+    else outcome.TooShort
+
+-- how many bytes were written: all, or none where the buffer is too short
+unfoldable pub replied : List ℕ → List ℕ → ℕ
+replied t out =
+    if leb (length t) (length out) then length t
+    else 0

@@ -1,0 +1,38 @@
+-- What holds of the lines of every file. Definitions only.
+use mathlib.Core.Path.{_≡_}
+use mathlib.Core.Bool.{Bool, true, false}
+use mathlib.Core.List.{List, [], _∷_}
+use Prim.Native.Nat.{ℕ, _+_, _≤_}
+use lib.Dec.{eqb}
+use lib.ListN.{length, getD}
+use Rattle.float.specs.Ops.{if_then_else_}
+use Rattle.lent_bytes.specs.Lists.{any, lastOr, isEmpty}
+use Rattle.lent_text.specs.Text.{newline}
+use Rattle.simple_umi.specs.Consensus.{Found}
+use Rattle.column_file.specs.Reading.{File}
+use Rattle.column_listing.specs.Listing.{linesOf}
+
+-- the newline
+abbrev pub isNewline : ℕ → Bool
+isNewline x = eqb x newline
+
+-- one line: a newline is its last byte, and none stands before
+abbrev pub isLine : List ℕ → Bool
+isLine [] = false
+isLine (x ∷ l) =
+    if isNewline x then isEmpty l
+    else isLine l
+
+-- line k, counted from 0
+abbrev pub lineAt : File → Found → ℕ → List ℕ
+lineAt f u k = getD (linesOf f u) k []
+
+pub record OneLineEach (f : File) (u : Found) : Type 0 where
+  -- the header, a line for each column, and the line of the strings
+  pub lines : length (linesOf f u) ≡ length (f .columns) + 2
+  -- each but the last is one line
+  pub one-line : (k : ℕ) → k ≤ length (f .columns) → isLine (lineAt f u k) ≡ true
+  -- the last ends in a newline
+  pub ends : lastOr 0 (lineAt f u (length (f .columns) + 1)) ≡ newline
+  -- and is one line unless the consensus itself has a newline, whose bytes are free
+  pub last-line : any isNewline (u .text) ≡ false → isLine (lineAt f u (length (f .columns) + 1)) ≡ true

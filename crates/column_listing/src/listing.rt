@@ -1,0 +1,203 @@
+// The listing of a file, into a lent buffer.
+ghost use mathlib.Core.Path.{_≡_};
+ghost use Prim.Native.Nat.{_+_, _*_, _≤_, _<_};
+ghost use lib.Dec.{leb};
+ghost use lib.ListN.{length};
+ghost use Rattle.lent_bytes.specs.Buffer.{written};
+ghost use Rattle.refusals.specs.Refusals.{numberIn};
+ghost use Rattle.refusals.specs.Result.{accepted};
+ghost use Rattle.rate_tables.specs.Adjusted.{adjustedOf};
+ghost use Rattle.unanimous_shortcut.specs.Unanimous.{tablesOf};
+ghost use Rattle.column_file.specs.Reading.{readFile};
+ghost use Rattle.column_file.specs.Places.{columnsAt, readingOf};
+ghost use Rattle.column_listing.specs.Listing.{listed, listingOf};
+ghost use Rattle.column_listing.specs.Answers.{listedIn, listingAnswer, listingNumber, listingBuffer, outcomeOf, replied};
+ghost use Rattle.column_listing.specs.Places.{placesText};
+ghost use Rattle.listing_lines.specs.Lines.{refusalLine};
+ghost use Rattle.listing_lines.specs.Tables.{textWith};
+use base_builder::ConsensusBaseBuilder;
+use column_file::Places;
+use column_file::Reading;
+use listing_lines::put_refusal;
+use listing_lines::put_text;
+use rate_tables::AdjustedProbabilityTables;
+use refusals::Refusal;
+use simple_umi::FlaggedAnswer;
+use simple_umi::SimpleUmiConsensusCaller;
+
+// Refused, or the length of the text.
+pub enum Listing {
+    Refused(Refusal),
+    Given(usize),
+}
+
+// The same before 10 has its number.
+pub enum Outcome {
+    Refused(Refusal),
+    TooShort,
+    Written(usize),
+}
+
+// Whether so many bytes hold the text. Where they hold the longest that so many columns can have, it
+// need not be measured; else it is printed into no room at all, and only counted.
+fn fits(
+    room: usize,
+    file: &[u8],
+    from: usize,
+    count: usize,
+    start: ConsensusBaseBuilder,
+    correct: &[f64; 94],
+    error_per_alt: &[f64; 94],
+    thresholds: &[f64; 94],
+    cerr_min: &[f64; 94],
+    cap: usize,
+    text: &[u8],
+    had_errors: bool,
+) -> bool
+    requires { ⌜ count < 65536 ⌝ }
+    requires { ⌜ length (textWith (adjustedOf (now correct) (now «error_per_alt»)) (tablesOf (now thresholds) (now «cerr_min») cap) start (columnsAt (now file) from count) (now text) «had_errors») ≤ 300 + 70 * count ⌝ }
+    ensures { λ r. ⌜ r ≡ leb (length (textWith (adjustedOf (now (correct .entry)) (now («error_per_alt» .entry))) (tablesOf (now (thresholds .entry)) (now («cerr_min» .entry)) cap) start (columnsAt (now (file .entry)) from count) (now (text .entry)) «had_errors»)) room ⌝ }
+{
+    if 300 + 70 * count <= room {
+        return true;
+    }
+    let mut nothing = [0u8; 1];
+    put_text(
+        file,
+        from,
+        count,
+        start,
+        correct,
+        error_per_alt,
+        thresholds,
+        cerr_min,
+        cap,
+        text,
+        had_errors,
+        &mut nothing,
+    )
+        <= room
+}
+
+// The text, where it fits.
+fn write_text(file: &[u8], places: Places, text: &[u8], had_errors: bool, out: &mut [u8]) -> Outcome
+    requires { ⌜ (places .count < 65536) × (length (placesText places (now file) (now text) «had_errors») ≤ 300 + 70 * places .count) ⌝ }
+    ensures reply { λ r. ⌜ r ≡ outcomeOf (now (out .entry)) (accepted (placesText places (now (file .entry)) (now (text .entry)) «had_errors»)) ⌝ }
+    ensures lent { λ _. ⌜ now (out .exit) ≡ written (placesText places (now (file .entry)) (now (text .entry)) «had_errors») (now (out .entry)) ⌝ }
+{
+    let settings = places.settings;
+    let from = places.columns;
+    let count = places.count;
+    let pre = settings.error_rate_pre_umi;
+    let post = settings.error_rate_post_umi;
+    let adjusted = AdjustedProbabilityTables::compute(post);
+    let gaps = gap_tables::build_unanimous_gap_tables(pre);
+    let correct = adjusted.correct;
+    let error = adjusted.error_per_alt;
+    let thresholds = gaps.thresholds;
+    let cerr_min = gaps.cerr_min;
+    let cap = gaps.cap;
+    let start = column_calls::start(settings);
+    let room = out.len();
+    if !fits(
+        room,
+        file,
+        from,
+        count,
+        start,
+        &correct,
+        &error,
+        &thresholds,
+        &cerr_min,
+        cap,
+        text,
+        had_errors,
+    ) {
+        return Outcome::TooShort;
+    }
+    Outcome::Written(put_text(
+        file,
+        from,
+        count,
+        start,
+        &correct,
+        &error,
+        &thresholds,
+        &cerr_min,
+        cap,
+        text,
+        had_errors,
+        out,
+    ))
+}
+
+// Of a file that is read: 7 to 9 by its strings. No consensus has more than 255 bytes.
+fn write_accepted(file: &[u8], places: Places, out: &mut [u8]) -> Outcome
+    requires { ⌜ readingOf (readFile (now file)) ≡ Reading.Accepted places ⌝ }
+    ensures reply { λ r. ⌜ r ≡ outcomeOf (now (out .entry)) (listed (now (file .entry))) ⌝ }
+    ensures lent { λ _. ⌜ now (out .exit) ≡ listingBuffer (now (out .entry)) (listedIn (now (file .entry)) (now (out .entry))) ⌝ }
+{
+    let strings = places.strings;
+    let mut text = [0u8; 255];
+    let consensus = SimpleUmiConsensusCaller::default().consensus(&file[strings..], &mut text);
+    let answer = consensus.answer;
+    match answer {
+        FlaggedAnswer::Refused(refusal) => Outcome::Refused(refusal),
+        FlaggedAnswer::Given(n, had_errors) => {
+            write_text(file, places, &text[..n], had_errors, out)
+        }
+    }
+}
+
+fn write(file: &[u8], out: &mut [u8]) -> Outcome
+    ensures reply { λ r. ⌜ r ≡ outcomeOf (now (out .entry)) (listed (now (file .entry))) ⌝ }
+    ensures lent { λ _. ⌜ now (out .exit) ≡ listingBuffer (now (out .entry)) (listedIn (now (file .entry)) (now (out .entry))) ⌝ }
+{
+    let reading = column_file::read(file);
+    match reading {
+        Reading::Refused(refusal) => Outcome::Refused(refusal),
+        Reading::Accepted(places) => write_accepted(file, places, out),
+    }
+}
+
+// The listing of a file, or the number by which it is refused: 10 where the buffer is too short, which
+// is then left as it is.
+pub fn list(file: &[u8], out: &mut [u8]) -> Listing
+    ensures answer { λ r. ⌜ r ≡ listingAnswer (listedIn (now (file .entry)) (now (out .entry))) ⌝ }
+    ensures lent { λ _. ⌜ now (out .exit) ≡ listingBuffer (now (out .entry)) (listedIn (now (file .entry)) (now (out .entry))) ⌝ }
+    ensures number { λ r. ⌜ listingNumber r ≡ numberIn (listedIn (now (file .entry)) (now (out .entry))) ⌝ }
+{
+    let outcome = write(file, out);
+    match outcome {
+        Outcome::Refused(refusal) => Listing::Refused(refusal),
+        Outcome::TooShort => Listing::Refused(Refusal::BufferTooShort),
+        Outcome::Written(n) => Listing::Given(n),
+    }
+}
+
+// The line of a refused file, where it fits.
+fn print_refusal(refusal: Refusal, out: &mut [u8]) -> usize
+    ensures reply { λ r. ⌜ r ≡ replied (refusalLine refusal) (now (out .entry)) ⌝ }
+    ensures lent { λ _. ⌜ now (out .exit) ≡ written (refusalLine refusal) (now (out .entry)) ⌝ }
+{
+    let mut aside = [0u8; 16];
+    let n = put_refusal(&mut aside, refusal);
+    if lent_bytes::write_front(out, &aside[..n]) {
+        return n;
+    }
+    0
+}
+
+// What the program prints for a file, the line of a refused one included, and how long it is; 0 where
+// the buffer is too short, which is then left as it is.
+pub fn print(file: &[u8], out: &mut [u8]) -> usize
+    ensures reply { λ r. ⌜ r ≡ replied (listingOf (now (file .entry))) (now (out .entry)) ⌝ }
+    ensures lent { λ _. ⌜ now (out .exit) ≡ written (listingOf (now (file .entry))) (now (out .entry)) ⌝ }
+{
+    let outcome = write(file, out);
+    match outcome {
+        Outcome::Refused(refusal) => print_refusal(refusal, out),
+        Outcome::TooShort => 0,
+        Outcome::Written(n) => n,
+    }
+}

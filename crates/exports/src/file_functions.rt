@@ -1,0 +1,23 @@
+// A column file: its listing, or how long its calls take.
+ghost use mathlib.Core.Path.{_≡_};
+ghost use Rattle.lent_bytes.specs.Buffer.{written};
+ghost use Rattle.column_calls.specs.Times.{callsOf};
+ghost use Rattle.column_listing.specs.Listing.{listingOf};
+ghost use Rattle.column_listing.specs.Answers.{replied};
+
+// The text that the program prints, and its length; 0 where the buffer is too short.
+#[no_mangle]
+pub extern "C" fn consensus_list(file: &[u8], out: &mut [u8]) -> u64
+    ensures reply { λ r. ⌜ r ≡ replied (listingOf (now (file .entry))) (now (out .entry)) ⌝ }
+    ensures lent { λ _. ⌜ now (out .exit) ≡ written (listingOf (now (file .entry))) (now (out .entry)) ⌝ }
+{
+    column_listing::print(file, out) as u64
+}
+
+// For timing: every column called so many times, all bases and qualities added up.
+#[no_mangle]
+pub extern "C" fn consensus_calls(file: &[u8], times: u32) -> u64
+    ensures { λ r. ⌜ r ≡ callsOf (now (file .entry)) times ⌝ }
+{
+    column_calls::calls(file, times)
+}

@@ -1,0 +1,3 @@
+pub mod Middle
+pub mod Promised
+pub mod Demand3

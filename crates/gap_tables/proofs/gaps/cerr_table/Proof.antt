@@ -1,0 +1,58 @@
+-- `cerr_table`: the places passed hold what the rule says. Assumes nothing.
+use native.Mathlib.Nat.{not-suc-le-zero}
+use mathlib.Core.Path.{_≡_, refl}
+use Prim.Native.Nat.{_-_, _≤_}
+use native.Mathlib.Omega.{arith}
+use borrow.Author.Needs.{needs}
+use lib.ListN.{length, length-set}
+use Rattle.rate_tables.proofs.Filled.{Filled, filled-more, filled-all}
+use Rattle.gap_tables.specs.Gaps.{cerrFrom}
+use Rattle.gap_tables.proofs.gaps.cerr_table.Statement.{statement}
+use Rattle.gap_tables.proofs.gaps.cerr_table.Tie as tie
+
+abbrev Inv-loop : tie.InvT-loop
+Inv-loop thresholds cap table₀ q₀ table q = (length table ≡ 94) × (q ≤ 94) × Filled (cerrFrom thresholds cap) table q
+
+abbrev μ-loop : tie.MeasureT-loop
+μ-loop thresholds cap table₀ q₀ table q = 94 - q
+
+loop-holds : tie.Need-loop-holds Inv-loop μ-loop
+loop-holds c = (refl, omega arith, (λ k h. absurd (not-suc-le-zero h)))
+
+cerr-at-requires : tie.Need-cerr-at-requires Inv-loop μ-loop
+cerr-at-requires c κs = search needs
+
+mul-table : tie.Need-mul-table Inv-loop μ-loop
+mul-table c = search needs
+
+array-write-table : tie.Need-array-write-table Inv-loop μ-loop
+array-write-table c = search needs
+
+add-q : tie.Need-add-q Inv-loop μ-loop
+add-q c = omega arith
+
+loop-less : tie.Need-loop-less Inv-loop μ-loop
+loop-less c = omega arith
+
+loop-again : tie.Need-loop-again Inv-loop μ-loop
+loop-again c =
+    let l = c .before .before .loop in
+    (simp length-set (l .inv .0), omega arith, filled-more _ (l .table) (l .q) (c .cerr-at .result) (omega arith) (c .cerr-at .ensures) (l .inv .2))
+
+returns : tie.Need-returns Inv-loop μ-loop
+returns c = let l = c .before .loop in filled-all _ (l .table) 94 (l .q) (l .inv .0) (c .loop-test .left) (l .inv .2)
+
+pub cerr-table-spec : {M : Type 1} → statement M
+cerr-table-spec =
+    tie.close
+    (tie.spec
+    Inv-loop
+    μ-loop
+    loop-holds
+    cerr-at-requires
+    mul-table
+    array-write-table
+    add-q
+    loop-less
+    loop-again
+    returns)

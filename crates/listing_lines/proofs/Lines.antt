@@ -1,0 +1,75 @@
+-- The lines of a listing: a line from what is put one after another, and the lines one column at a time. Assumes nothing.
+use mathlib.Core.Path.{_≡_, refl, sym, _∙_, ap}
+use mathlib.Core.List.{List, [], _∷_, _++_, append-assoc, append-nil}
+use Prim.Native.Nat.{ℕ, _+_, _-_, _*_, _≤_, _<_}
+use lib.ListN.{length, take, drop}
+use Rattle.tie_rules.specs.Lanes.{counted}
+use Rattle.rate_tables.specs.declared.adjusted.AdjustedProbabilityTables.{AdjustedProbabilityTables}
+use Rattle.gap_tables.specs.declared.gaps.UnanimousGapTables.{UnanimousGapTables}
+use Rattle.lane_calls.specs.declared.call.Call.{Call}
+use Rattle.base_builder.specs.declared.builder.ConsensusBaseBuilder.{ConsensusBaseBuilder}
+use Rattle.base_builder.specs.Calls.{callOf}
+use Rattle.lent_text.specs.Text.{decimal, space, newline}
+use Rattle.column_file.specs.declared.columns.ColumnPlace.the-variants.{At, Past}
+use Rattle.column_file.specs.Places.{columnAt, columnsAt}
+use Rattle.column_file.proofs.ColumnWalk.{observations-length, column-inside}
+use Rattle.column_calls.specs.Columns.{pairs}
+use Rattle.column_calls.specs.Tables.{builderWith}
+use Rattle.column_calls.proofs.Pairs.{part-pairs}
+use Rattle.column_calls.proofs.Walk.{columns-more, columns-past, columns-none}
+use Rattle.listing_lines.specs.Lines.{lineOf, textOf}
+use Rattle.listing_lines.specs.Tables.{linesWith}
+
+-- a further field: a space and a number
+abbrev pub field : ℕ → List ℕ
+field n = space ∷ decimal n
+
+-- the fields of the counts
+abbrev pub counts : List ℕ → List ℕ
+counts ns = field (counted ns 0) ++ field (counted ns 1) ++ field (counted ns 2) ++ field (counted ns 3)
+
+-- four fields, then what follows
+fields : (a c g t e : List ℕ)
+    → (space ∷ a) ++ (space ∷ c) ++ (space ∷ g) ++ (space ∷ t) ++ e ≡ space ∷ (a ++ (space ∷ (c ++ (space ∷ (g ++ (space ∷ (t ++ e)))))))
+fields a c g t e = simp append-assoc
+
+-- a line: the number, a space, the base, the quality, the depth, the counts, a newline
+pub line-puts : (i : ℕ) (call : Call) (depth : ℕ) (ns : List ℕ)
+    → decimal i ++ ((space ∷ []) ++ ((call .base ∷ []) ++ (field (call .qual .0) ++ (field depth ++ (counts ns ++ (newline ∷ [])))))) ≡ lineOf i call depth ns
+unfolding lineOf
+line-puts i call depth ns =
+    rw (fields (decimal (counted ns 0)) (decimal (counted ns 1)) (decimal (counted ns 2)) (decimal (counted ns 3)) (newline ∷ []))
+
+-- a column that is found lies in the file
+pub column-fits : (s : List ℕ) (at start n : ℕ) → columnAt s at ≡ At start n → start + 2 * n ≤ length s
+column-fits s at start n e = column-inside s at (columnAt s at) refl start n e
+
+-- n columns from a place on, numbered from i on, with given tables and a given first builder
+module _ (t : AdjustedProbabilityTables) (g : UnanimousGapTables) (b : ConsensusBaseBuilder) (s : List ℕ) (at n i : ℕ) where
+  -- one column more: its line, and those of the columns after it
+  pub lines-more : (start k : ℕ) → 0 < n → columnAt s at ≡ At start k → textOf (linesWith t g b i (columnsAt s at n))
+      ≡ (let after = builderWith t b (pairs (take (start + 2 * k - start) (drop start s))) in lineOf i (callOf g after) k (after .observations))
+      ++ textOf (linesWith t g b (i + 1) (columnsAt s (start + 2 * k) (n - 1)))
+  unfolding linesWith
+  lines-more start k h e =
+      rw (columns-more s at n start k h e, observations-length s start k, part-pairs s start k (column-fits s at start k e))
+
+  -- none more: the bytes do not reach
+  pub lines-past : columnAt s at ≡ Past → textOf (linesWith t g b i (columnsAt s at n)) ≡ []
+  unfolding linesWith
+  lines-past e = rw (columns-past s at n e)
+
+  -- none more: no column is left
+  pub lines-none : n ≤ 0 → textOf (linesWith t g b i (columnsAt s at n)) ≡ []
+  unfolding linesWith
+  lines-none h = rw (columns-none s at n h)
+
+-- ---- what is printed so far and what is left
+
+-- a line printed
+pub one-more : (done line rest left all : List ℕ) → left ≡ line ++ rest → done ++ left ≡ all → done ++ line ++ rest ≡ all
+one-more done line rest left all e h = append-assoc done line rest ∙ ap (λ (l : List ℕ). done ++ l) (sym e) ∙ h
+
+-- nothing is left
+pub no-more : (done left all : List ℕ) → left ≡ [] → done ++ left ≡ all → done ≡ all
+no-more done left all e h = sym (append-nil done) ∙ ap (λ (l : List ℕ). done ++ l) (sym e) ∙ h

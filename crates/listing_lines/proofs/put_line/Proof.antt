@@ -1,0 +1,76 @@
+-- `put_line`: the fields, one after another. Assumes nothing.
+use mathlib.Core.Path.{ap}
+use Rattle.lent_text.proofs.Printed.{print-then, printed-length, printed-as}
+use Rattle.listing_lines.proofs.Lines.{field, line-puts}
+use borrow.Author.Needs.{needs}
+use Rattle.listing_lines.proofs.put_line.Statement.{statement}
+use Rattle.listing_lines.proofs.put_line.Tie as tie
+
+put-decimal-requires : tie.Need-put-decimal-requires
+put-decimal-requires c κs = tt
+
+put-byte-requires : tie.Need-put-byte-requires
+put-byte-requires c κs = tt
+
+put-byte-requires-2 : tie.Need-put-byte-requires-2
+put-byte-requires-2 c κs = tt
+
+cast-wide : tie.Need-cast-wide
+cast-wide c = search needs
+
+wide-requires : tie.Need-wide-requires
+wide-requires c κs = tt
+
+put-field-requires : tie.Need-put-field-requires
+put-field-requires c κs = tt
+
+put-field-requires-2 : tie.Need-put-field-requires-2
+put-field-requires-2 c κs = tt
+
+put-counts-requires : tie.Need-put-counts-requires
+put-counts-requires c κs = tt
+
+put-byte-requires-3 : tie.Need-put-byte-requires-3
+put-byte-requires-3 c κs = tt
+
+-- the puts, one after another
+whole : tie.Need-returns
+whole c =
+    let end = c .before .before in
+    let counts = end .before .before .before .before in
+    let depth = counts .before .before .before .before in
+    let quality = depth .before .before .before .before in
+    let base = quality .before .before .before .before .before .before in
+    let gap = base .before .before .before .before in
+    let number = gap .before .before .before .before in
+    let a = number .before .before .before .before .args in
+    printed-as
+    (print-then (number .put-decimal .ensures)
+    (print-then (gap .put-byte .ensures)
+    (print-then (base .put-byte2 .ensures)
+    (print-then (printed-as (quality .put-field .ensures) (ap field (quality .before .wide .ensures)))
+    (print-then (depth .put-field2 .ensures)
+    (print-then (counts .put-counts .ensures) (end .put-byte3 .ensures)))))))
+    (line-puts (a .number) (a .call) (a .depth) (a .counts))
+
+same-length : tie.Need-same-length
+same-length c = printed-length (whole c)
+
+returns : tie.Need-returns
+returns c = whole c
+
+pub put-line-spec : {M : Type 1} → statement M
+put-line-spec =
+    tie.close
+    (tie.spec
+    put-decimal-requires
+    put-byte-requires
+    put-byte-requires-2
+    cast-wide
+    wide-requires
+    put-field-requires
+    put-field-requires-2
+    put-counts-requires
+    put-byte-requires-3
+    same-length
+    returns)

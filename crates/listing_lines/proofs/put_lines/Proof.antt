@@ -1,0 +1,167 @@
+-- `put_lines`: what is printed, and the lines of the columns that are left, are all, at each turn. Assumes nothing.
+use native.Mathlib.Omega.{arith}
+use mathlib.Core.Path.{_≡_, sym, _∙_}
+use mathlib.Core.List.{List, [], _++_}
+use Prim.Native.Nat.{ℕ, _+_, _-_, _*_, _≤_}
+use lib.ListN.{length, take, drop}
+use Rattle.rate_tables.specs.Adjusted.{adjustedOf}
+use Rattle.unanimous_shortcut.specs.Unanimous.{tablesOf}
+use Rattle.base_builder.specs.Calls.{callOf}
+use Rattle.lent_text.specs.Printed.{Printed}
+use Rattle.lent_text.proofs.Printed.{print-then, print-none, printed-length, printed-as}
+use Rattle.column_file.specs.Places.{columnsAt}
+use Rattle.column_calls.specs.Columns.{pairs}
+use Rattle.column_calls.specs.Tables.{builderWith}
+use Rattle.listing_lines.specs.Lines.{lineOf, textOf}
+use Rattle.listing_lines.specs.Tables.{linesWith}
+use Rattle.listing_lines.proofs.Lines.{column-fits, lines-more, lines-past, lines-none, one-more, no-more}
+use borrow.Author.Needs.{needs}
+use Rattle.listing_lines.proofs.put_lines.Statement.{statement}
+use Rattle.listing_lines.proofs.put_lines.Tie as tie
+
+abbrev Inv-loop : tie.InvT-loop
+Inv-loop file from count start correct error-per-alt thresholds cerr-min cap out₀ at column₀ number₀ place₀ out column number place =
+    let t = adjustedOf correct error-per-alt in
+    let g = tablesOf thresholds cerr-min cap in
+    (number ≤ count)
+    × (done : List ℕ)
+    × Printed out₀ at done out place
+    × (done ++ textOf (linesWith t g start (number + 1) (columnsAt file column (count - number))) ≡ textOf (linesWith t g start 1 (columnsAt file from count)))
+
+abbrev μ-loop : tie.MeasureT-loop
+μ-loop file from count start correct error-per-alt thresholds cerr-min cap out₀ at column₀ number₀ place₀ out column number place = count - number
+
+-- the column lies in the file
+inside : (c : tie.After-known-told Inv-loop μ-loop)
+    → c .before .next .given .0 .0 + 2 * c .before .next .given .0 .1 .0
+    ≤ length (c .before .before .before .before .before .before .before .before .args .file .now)
+inside c =
+    let l = c .before .before .before .before .before .loop in
+    let a = c .before .before .before .before .before .before .before .before .args in
+    let n = c .before .next .given in
+    column-fits (a .file .now) (l .column) (n .0 .0) (n .0 .1 .0) (sym (c .before .before .before .column-at .ensures) ∙ n .1)
+
+loop-holds : tie.Need-loop-holds Inv-loop μ-loop
+loop-holds c =
+    let a = c .before .before .args in
+    let e : a .count - 0 ≡ a .count = omega arith in
+    (omega arith, [], print-none _ _ (omega arith) (omega arith), rw e)
+
+column-at-requires : tie.Need-column-at-requires Inv-loop μ-loop
+column-at-requires c κs = tt
+
+enum-known-next : tie.Need-enum-known-next Inv-loop μ-loop
+enum-known-next c = search needs
+
+enum-told : tie.Need-enum-told Inv-loop μ-loop
+enum-told c = search needs
+
+same-length : tie.Need-same-length Inv-loop μ-loop
+same-length c = printed-length (c .before .before .before .before .loop .inv .2)
+
+returns : tie.Need-returns Inv-loop μ-loop
+returns c =
+    let at-loop = c .before .before .before .before in
+    let l = at-loop .loop in
+    let a = at-loop .before .before .before .args in
+    let t = adjustedOf (a .correct .now) (a .error-per-alt .now) in
+    let g = tablesOf (a .thresholds .now) (a .cerr-min .now) (a .cap) in
+    let e = sym (c .before .before .column-at .ensures) ∙ c .enum-told .given .1 in
+    printed-as (l .inv .2) (no-more (l .inv .1) _ _ (lines-past t g (a .start) (a .file .now) (l .column) (a .count - l .number) (l .number + 1) e) (l .inv .3))
+
+mul-end : tie.Need-mul-end Inv-loop μ-loop
+mul-end c = omega (arith, inside c)
+
+add-end : tie.Need-add-end Inv-loop μ-loop
+add-end c = omega (arith, inside c)
+
+sub-add-observations : tie.Need-sub-add-observations Inv-loop μ-loop
+sub-add-observations c = search needs
+
+part-add-observations-start : tie.Need-part-add-observations-start Inv-loop μ-loop
+part-add-observations-start c = search needs
+
+part-add-observations-end : tie.Need-part-add-observations-end Inv-loop μ-loop
+part-add-observations-end c = inside c
+
+add-observations-requires : tie.Need-add-observations-requires Inv-loop μ-loop
+add-observations-requires c κs = tt
+
+call-with-requires : tie.Need-call-with-requires Inv-loop μ-loop
+call-with-requires c κs = tt
+
+add-number : tie.Need-add-number Inv-loop μ-loop
+add-number c = search needs
+
+put-line-requires : tie.Need-put-line-requires Inv-loop μ-loop
+put-line-requires c κs = tt
+
+loop-less : tie.Need-loop-less Inv-loop μ-loop
+loop-less c = search needs
+
+loop-again : tie.Need-loop-again Inv-loop μ-loop
+loop-again c =
+    let put = c .before .before in
+    let called = put .before .before .before in
+    let built = called .before in
+    let at-next = built .before .before .before in
+    let at-loop = at-next .before .before .before .before in
+    let l = at-loop .loop in
+    let a = at-loop .before .before .before .args in
+    let n = at-next .next .given in
+    let s = a .file .now in
+    let t = adjustedOf (a .correct .now) (a .error-per-alt .now) in
+    let g = tablesOf (a .thresholds .now) (a .cerr-min .now) (a .cap) in
+    let end = n .0 .0 + 2 * n .0 .1 .0 in
+    let after = builderWith t (a .start) (pairs (take (end - n .0 .0) (drop (n .0 .0) s))) in
+    let line = lineOf (l .number + 1) (callOf g after) (n .0 .1 .0) (after .observations) in
+    let e = sym (at-next .before .before .column-at .ensures) ∙ n .1 in
+    let d : a .count - (l .number + 1) ≡ a .count - l .number - 1 = omega arith in
+    let p : Printed (l .out) (l .place) line (put .put-line .last .0) (put .put-line .result) =
+    rw (← built .add-observations .ensures, ← called .call-with .ensures) (put .put-line .ensures) in (
+      omega (arith, at-next .before .before .before .loop-test .taken),
+      l .inv .1 ++ line,
+      print-then (l .inv .2) p,
+      rw d
+          (one-more (l .inv .1) line _ _ _
+          (lines-more t g (a .start) s (l .column) (a .count - l .number) (l .number + 1) (n .0 .0) (n .0 .1 .0) (omega arith) e)
+          (l .inv .3)),
+    )
+
+same-length-2 : tie.Need-same-length-2 Inv-loop μ-loop
+same-length-2 c = printed-length (c .before .loop .inv .2)
+
+returns-2 : tie.Need-returns-2 Inv-loop μ-loop
+returns-2 c =
+    let l = c .before .loop in
+    let a = c .before .before .before .before .args in
+    let t = adjustedOf (a .correct .now) (a .error-per-alt .now) in
+    let g = tablesOf (a .thresholds .now) (a .cerr-min .now) (a .cap) in
+    printed-as (l .inv .2)
+    (no-more (l .inv .1) _ _ (lines-none t g (a .start) (a .file .now) (l .column) (a .count - l .number) (l .number + 1) (omega arith)) (l .inv .3))
+
+pub put-lines-spec : {M : Type 1} → statement M
+put-lines-spec =
+    tie.close
+    (tie.spec
+    Inv-loop
+    μ-loop
+    loop-holds
+    column-at-requires
+    enum-known-next
+    enum-told
+    same-length
+    returns
+    mul-end
+    add-end
+    sub-add-observations
+    part-add-observations-start
+    part-add-observations-end
+    add-observations-requires
+    call-with-requires
+    add-number
+    put-line-requires
+    loop-less
+    loop-again
+    same-length-2
+    returns-2)

@@ -1,0 +1,60 @@
+-- `put_refusal`: the word and the number. Assumes nothing.
+use mathlib.Core.Path.{refl, _∙_, ap}
+use Rattle.lent_text.proofs.Printed.{print-then, printed-length, printed-as}
+use Rattle.listing_lines.specs.Lines.{refusalLine}
+use Rattle.listing_lines.proofs.Lines.{field}
+use borrow.Author.Needs.{needs}
+use Rattle.listing_lines.proofs.put_refusal.Statement.{statement}
+use Rattle.listing_lines.proofs.put_refusal.Tie as tie
+
+number-requires : tie.Need-number-requires
+number-requires c κs = tt
+
+slice-aggregate-put-bytes : tie.Need-slice-aggregate-put-bytes
+slice-aggregate-put-bytes c = refl
+
+put-bytes-requires : tie.Need-put-bytes-requires
+put-bytes-requires c κs = tt
+
+cast-wide : tie.Need-cast-wide
+cast-wide c = search needs
+
+wide-requires : tie.Need-wide-requires
+wide-requires c κs = tt
+
+put-field-requires : tie.Need-put-field-requires
+put-field-requires c κs = tt
+
+put-byte-requires : tie.Need-put-byte-requires
+put-byte-requires c κs = tt
+
+-- the puts, one after another
+whole : tie.Need-returns
+unfolding refusalLine
+whole c =
+    let field-put = c .before .before .before .before .before .before in
+    let word = field-put .before .before .before .before .before in
+    print-then (word .put-bytes .ensures)
+    (print-then
+    (printed-as (field-put .put-field .ensures) (ap field (field-put .before .wide .ensures ∙ word .before .before .before .number .ensures)))
+    (c .before .before .put-byte .ensures))
+
+same-length : tie.Need-same-length
+same-length c = printed-length (whole c)
+
+returns : tie.Need-returns
+returns c = whole c
+
+pub put-refusal-spec : {M : Type 1} → statement M
+put-refusal-spec =
+    tie.close
+    (tie.spec
+    number-requires
+    slice-aggregate-put-bytes
+    put-bytes-requires
+    cast-wide
+    wide-requires
+    put-field-requires
+    put-byte-requires
+    same-length
+    returns)

@@ -1,0 +1,51 @@
+-- `put_text`: the header, the lines and the last line. Assumes nothing.
+use mathlib.Core.Path.{refl}
+use Rattle.rate_tables.specs.Adjusted.{adjustedOf}
+use Rattle.unanimous_shortcut.specs.Unanimous.{tablesOf}
+use Rattle.lent_text.proofs.Printed.{print-then, printed-length}
+use Rattle.column_file.specs.Places.{columnsAt}
+use Rattle.listing_lines.specs.Lines.{textOf}
+use Rattle.listing_lines.specs.Tables.{linesWith, textWith}
+use Rattle.listing_lines.proofs.put_text.Statement.{statement}
+use Rattle.listing_lines.proofs.put_text.Tie as tie
+
+slice-aggregate-put-bytes : tie.Need-slice-aggregate-put-bytes
+slice-aggregate-put-bytes c = refl
+
+put-bytes-requires : tie.Need-put-bytes-requires
+put-bytes-requires c κs = tt
+
+put-lines-requires : tie.Need-put-lines-requires
+put-lines-requires c κs = tt
+
+put-umi-requires : tie.Need-put-umi-requires
+put-umi-requires c κs = tt
+
+-- the puts, one after another
+whole : tie.Need-returns
+unfolding textWith
+whole c =
+    let lines = c .before .before .before .before .before .before in
+    let header = lines .before .before .before .before in
+    let a = header .before .before .before .before .before .before .args in
+    let t = adjustedOf (a .correct .now) (a .error-per-alt .now) in
+    let g = tablesOf (a .thresholds .now) (a .cerr-min .now) (a .cap) in
+    let text = textOf (linesWith t g (a .start) 1 (columnsAt (a .file .now) (a .from) (a .count))) in
+    print-then (print-then {u = text} (header .put-bytes .ensures) (lines .put-lines .ensures)) (c .before .before .put-umi .ensures)
+
+same-length : tie.Need-same-length
+same-length c = printed-length (whole c)
+
+returns : tie.Need-returns
+returns c = whole c
+
+pub put-text-spec : {M : Type 1} → statement M
+put-text-spec =
+    tie.close
+    (tie.spec
+    slice-aggregate-put-bytes
+    put-bytes-requires
+    put-lines-requires
+    put-umi-requires
+    same-length
+    returns)

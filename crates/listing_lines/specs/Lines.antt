@@ -1,0 +1,51 @@
+-- The lines of a listing. Definitions only.
+use Prim.Native.Nat.{ℕ, _+_}
+use mathlib.Core.Bool.{Bool, true, false}
+use mathlib.Core.List.{List, [], _∷_, _++_}
+use lib.ListN.{length}
+use Rattle.refusals.specs.declared.Refusal.{Refusal}
+use Rattle.refusals.specs.Refusals.{numberOf}
+use Rattle.lent_text.specs.Text.{letters, decimal, line}
+use Rattle.tie_rules.specs.Lanes.{counted}
+use Rattle.lane_calls.specs.declared.call.Call.{Call}
+use Rattle.column_file.specs.declared.settings.Settings.{Settings}
+use Rattle.column_file.specs.Format.{Observation}
+use Rattle.column_calls.specs.Columns.{builderOf, columnCall}
+
+-- what the fields of a column's line are called
+abbrev pub header : List ℕ
+header = line (letters "column base quality depth A C G T" ∷ [])
+
+-- a line: number, base, quality, depth, four counts
+unfoldable pub lineOf : ℕ → Call → ℕ → List ℕ → List ℕ
+lineOf i call depth counts =
+    line (
+    decimal i ∷ (call .base ∷ []) ∷ decimal (call .qual .0) ∷ decimal depth
+    ∷ decimal (counted counts 0) ∷ decimal (counted counts 1) ∷ decimal (counted counts 2) ∷ decimal (counted counts 3) ∷ [])
+
+-- of column number i: its depth is its count in the file
+unfoldable pub columnLine : ℕ → Settings → List Observation → List ℕ
+columnLine i g c = lineOf i (columnCall g c) (length c) (builderOf g c .observations)
+
+-- of columns, numbered from i on
+unfoldable pub columnLines : ℕ → Settings → List (List Observation) → List (List ℕ)
+columnLines i g [] = []
+columnLines i g (c ∷ cs) = columnLine i g c ∷ columnLines (i + 1) g cs
+
+-- a flag in letters
+abbrev pub flag : Bool → List ℕ
+flag true = letters "true"
+flag false = letters "false"
+
+-- the last line: the consensus of the strings, its bytes as they are, and whether a string differs from it
+unfoldable pub umiLine : List ℕ → Bool → List ℕ
+umiLine text hadErrors = line (letters "umi" ∷ text ∷ flag hadErrors ∷ [])
+
+-- lines one after another
+abbrev pub textOf : List (List ℕ) → List ℕ
+textOf [] = []
+textOf (l ∷ ls) = l ++ textOf ls
+
+-- what is printed of a refused file: its number alone
+unfoldable pub refusalLine : Refusal → List ℕ
+refusalLine r = line (letters "refused" ∷ decimal (numberOf r) ∷ [])

@@ -1,0 +1,156 @@
+// The lines of a listing, printed into a buffer from a place on.
+ghost use mathlib.Core.Path.{_≡_};
+ghost use mathlib.Core.List.{[], _∷_, _++_};
+ghost use Rattle.rate_tables.specs.Adjusted.{adjustedOf};
+ghost use Rattle.unanimous_shortcut.specs.Unanimous.{tablesOf};
+ghost use Rattle.tie_rules.specs.Lanes.{counted};
+ghost use Rattle.lent_text.specs.Text.{decimal, space};
+ghost use Rattle.lent_text.specs.Printed.{Printed};
+ghost use Rattle.column_file.specs.Places.{columnsAt};
+ghost use Rattle.listing_lines.specs.Lines.{lineOf, umiLine, textOf, refusalLine};
+ghost use Rattle.listing_lines.specs.Tables.{linesWith, textWith};
+use base_builder::ConsensusBaseBuilder;
+use base_builder::call_with;
+use column_calls::add_observations;
+use column_file::ColumnPlace;
+use column_file::column_at;
+use lane_calls::Call;
+use lent_text::put_byte;
+use lent_text::put_bytes;
+use lent_text::put_decimal;
+use refusals::Refusal;
+
+fn wide(n: u32) -> u64
+    ensures { λ r. ⌜ r ≡ n ⌝ }
+{
+    n as u64
+}
+
+// A further field: a space and a number.
+fn put_field(out: &mut [u8], at: usize, n: u64) -> usize
+    ensures { λ r. ⌜ Printed (now (out .entry)) at (space ∷ decimal n) (now (out .exit)) r ⌝ }
+{
+    let place = put_byte(out, at, b' ');
+    put_decimal(out, place, n)
+}
+
+// The counts of A, C, G and T.
+fn put_counts(out: &mut [u8], at: usize, counts: [u32; 4]) -> usize
+    ensures { λ r. ⌜ Printed (now (out .entry)) at ((space ∷ decimal (counted counts 0)) ++ (space ∷ decimal (counted counts 1)) ++ (space ∷ decimal (counted counts 2)) ++ (space ∷ decimal (counted counts 3))) (now (out .exit)) r ⌝ }
+{
+    let a = put_field(out, at, wide(counts[0]));
+    let c = put_field(out, a, wide(counts[1]));
+    let g = put_field(out, c, wide(counts[2]));
+    put_field(out, g, wide(counts[3]))
+}
+
+fn put_line(
+    out: &mut [u8],
+    at: usize,
+    number: u64,
+    call: Call,
+    depth: u64,
+    counts: [u32; 4],
+) -> usize
+    ensures { λ r. ⌜ Printed (now (out .entry)) at (lineOf number call depth counts) (now (out .exit)) r ⌝ }
+{
+    let base = call.base;
+    let qual = call.qual;
+    let a = put_decimal(out, at, number);
+    let b = put_byte(out, a, b' ');
+    let c = put_byte(out, b, base);
+    let d = put_field(out, c, wide(qual.0 as u32));
+    let e = put_field(out, d, depth);
+    let f = put_counts(out, e, counts);
+    put_byte(out, f, b'\n')
+}
+
+// A line for each column, numbered from 1.
+fn put_lines(
+    file: &[u8],
+    from: usize,
+    count: usize,
+    start: ConsensusBaseBuilder,
+    correct: &[f64; 94],
+    error_per_alt: &[f64; 94],
+    thresholds: &[f64; 94],
+    cerr_min: &[f64; 94],
+    cap: usize,
+    out: &mut [u8],
+    at: usize,
+) -> usize
+    ensures { λ r. ⌜ Printed (now (out .entry)) at (textOf (linesWith (adjustedOf (now (correct .entry)) (now («error_per_alt» .entry))) (tablesOf (now (thresholds .entry)) (now («cerr_min» .entry)) cap) start 1 (columnsAt (now (file .entry)) from count))) (now (out .exit)) r ⌝ }
+{
+    let mut column = from;
+    let mut number: usize = 0;
+    let mut place = at;
+    while number < count {
+        let next = column_at(file, column);
+        let ColumnPlace::At(first, depth) = next else {
+            return place;
+        };
+        let end = first + 2 * depth;
+        let builder = add_observations(start, &file[first..end], correct, error_per_alt);
+        let call = call_with(builder, thresholds, cerr_min, cap);
+        let counts = builder.observations;
+        number += 1;
+        place = put_line(out, place, number as u64, call, depth as u64, counts);
+        column = end;
+    }
+    place
+}
+
+fn put_umi(out: &mut [u8], at: usize, text: &[u8], had_errors: bool) -> usize
+    ensures { λ r. ⌜ Printed (now (out .entry)) at (umiLine (now (text .entry)) «had_errors») (now (out .exit)) r ⌝ }
+{
+    let a = put_bytes(out, at, b"umi ");
+    let b = put_bytes(out, a, text);
+    if had_errors {
+        return put_bytes(out, b, b" true\n");
+    }
+    put_bytes(out, b, b" false\n")
+}
+
+// The whole text.
+pub fn put_text(
+    file: &[u8],
+    from: usize,
+    count: usize,
+    start: ConsensusBaseBuilder,
+    correct: &[f64; 94],
+    error_per_alt: &[f64; 94],
+    thresholds: &[f64; 94],
+    cerr_min: &[f64; 94],
+    cap: usize,
+    text: &[u8],
+    had_errors: bool,
+    out: &mut [u8],
+) -> usize
+    ensures { λ r. ⌜ Printed (now (out .entry)) 0 (textWith (adjustedOf (now (correct .entry)) (now («error_per_alt» .entry))) (tablesOf (now (thresholds .entry)) (now («cerr_min» .entry)) cap) start (columnsAt (now (file .entry)) from count) (now (text .entry)) «had_errors») (now (out .exit)) r ⌝ }
+{
+    let lines = put_bytes(out, 0, b"column base quality depth A C G T\n");
+    let umi = put_lines(
+        file,
+        from,
+        count,
+        start,
+        correct,
+        error_per_alt,
+        thresholds,
+        cerr_min,
+        cap,
+        out,
+        lines,
+    );
+    put_umi(out, umi, text, had_errors)
+}
+
+// What is printed of a refused file.
+pub fn put_refusal(out: &mut [u8], refusal: Refusal) -> usize
+    ensures { λ r. ⌜ Printed (now (out .entry)) 0 (refusalLine refusal) (now (out .exit)) r ⌝ }
+{
+    let number = refusals::number(refusal);
+    let a = put_bytes(out, 0, b"refused");
+    let b = put_field(out, a, wide(number as u32));
+    put_byte(out, b, b'\n')
+}

@@ -1,0 +1,19 @@
+-- `or_else`: by what the first says. Assumes nothing.
+use borrow.Author.Needs.{needs}
+use Rattle.refusals.proofs.or_else.Statement.{statement}
+use Rattle.refusals.proofs.or_else.Tie as tie
+
+enum-known-first : tie.Need-enum-known-first
+enum-known-first c = search needs
+
+enum-told : tie.Need-enum-told
+enum-told c = search needs
+
+returns : tie.Need-returns
+returns c = rw (c .before .first .given .1)
+
+returns-2 : tie.Need-returns-2
+returns-2 c = search needs
+
+pub or-else-spec : {M : Type 1} → statement M
+or-else-spec = tie.close (tie.spec enum-known-first enum-told returns returns-2)
