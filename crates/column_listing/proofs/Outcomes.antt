@@ -9,7 +9,7 @@ use lib.Dec.{leb, ltb}
 use lib.ListN.{length, take, drop}
 use lib.Seq.{take-append-seam}
 use Rattle.float.proofs.Cases.{test, choice}
-use Rattle.lent_bytes.specs.Buffer.{written}
+use Rattle.lent_bytes.specs.Buffer.{replied, written}
 use Rattle.lent_bytes.proofs.Buffer.{short-written}
 use Rattle.lent_text.specs.Printed.{Printed}
 use Rattle.lent_text.proofs.Printed.{printed-as, printed-written}
@@ -40,7 +40,7 @@ use Rattle.column_listing.specs.declared.listing.Listing.the-variants as
 use Rattle.column_listing.specs.declared.listing.Outcome.{Outcome}
 use Rattle.column_listing.specs.declared.listing.Outcome.the-variants as outcome
 use Rattle.column_listing.specs.Listing.{listed, printed, listingOf}
-use Rattle.column_listing.specs.Answers.{roomFor, listedIn, listingAnswer, listingNumber, listingBuffer, outcomeOf, replied}
+use Rattle.column_listing.specs.Answers.{roomFor, listedIn, listingAnswer, listingNumber, listingBuffer, outcomeOf}
 use Rattle.column_listing.specs.Places.{placesText}
 use Rattle.column_listing.proofs.Files.{strings-read}
 use Rattle.column_listing.proofs.Texts.{text-is}

@@ -45,9 +45,3 @@ outcomeOf out (refused r) = outcome.Refused r
 outcomeOf out (accepted t) =
     if leb (length t) (length out) then outcome.Written (length t)
     else outcome.TooShort
-
--- how many bytes were written: all, or none where the buffer is too short
-unfoldable pub replied : List ℕ → List ℕ → ℕ
-replied t out =
-    if leb (length t) (length out) then length t
-    else 0

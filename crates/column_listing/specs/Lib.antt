@@ -1,4 +1,3 @@
 pub mod Listing
 pub mod Answers
 pub mod Places
-pub mod Laws

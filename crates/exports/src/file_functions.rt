@@ -1,9 +1,8 @@
 // A column file: its listing, or how long its calls take.
 ghost use mathlib.Core.Path.{_≡_};
-ghost use Rattle.lent_bytes.specs.Buffer.{written};
+ghost use Rattle.lent_bytes.specs.Buffer.{replied, written};
 ghost use Rattle.column_calls.specs.Times.{callsOf};
 ghost use Rattle.column_listing.specs.Listing.{listingOf};
-ghost use Rattle.column_listing.specs.Answers.{replied};
 
 // The text that the program prints, and its length; 0 where the buffer is too short.
 #[no_mangle]

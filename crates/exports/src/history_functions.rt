@@ -1,7 +1,6 @@
 // A script of a builder's calls: the reports that it asks for, or how long it takes.
 ghost use mathlib.Core.Path.{_≡_};
-ghost use Rattle.lent_bytes.specs.Buffer.{written};
-ghost use Rattle.history_script.specs.Bytes.{replied};
+ghost use Rattle.lent_bytes.specs.Buffer.{replied, written};
 ghost use Rattle.history_script.specs.Runs.{historyBytes};
 ghost use Rattle.history_script.specs.State.{builderScriptBytes};
 ghost use Rattle.script_times.specs.Times.{timesOf};

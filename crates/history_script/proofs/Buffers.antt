@@ -9,8 +9,7 @@ use lib.ListN.{length}
 use Rattle.rate_tables.specs.Adjusted.{adjustedTables}
 use Rattle.gap_tables.specs.Gaps.{gapTables}
 use Rattle.base_builder.specs.declared.builder.ConsensusBaseBuilder.{ConsensusBaseBuilder}
-use Rattle.lent_bytes.specs.Buffer.{written}
-use Rattle.history_script.specs.Bytes.{replied}
+use Rattle.lent_bytes.specs.Buffer.{replied, written}
 use Rattle.script_items.specs.Script.{items, isScript}
 use Rattle.history_script.specs.Runs.{reports, startOf, scriptBytes}
 

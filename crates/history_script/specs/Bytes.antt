@@ -2,10 +2,8 @@
 use Prim.Native.Nat.{ℕ, zero, suc, _+_, _*_, _/_, _%_}
 use mathlib.Core.Path.{_≡_}
 use mathlib.Core.List.{List, [], _∷_}
-use lib.Dec.{leb}
 use lib.ListN.{length}
 use lib.Seq.{sets}
-use Rattle.float.specs.Ops.{if_then_else_}
 
 -- a number as n bytes, the low byte first
 unfoldable pub bytesOf : ℕ → ℕ → List ℕ
@@ -21,9 +19,3 @@ numberOf (b ∷ bs) = b + 256 * numberOf bs
 pub record Put (out : List ℕ) (at : ℕ) (bs out′ : List ℕ) (at′ : ℕ) : Type 0 where
   pub place : at′ ≡ at + length bs
   pub bytes : out′ ≡ sets out at bs
-
--- how many bytes were written: all, or none where the buffer is too short
-unfoldable pub replied : List ℕ → List ℕ → ℕ
-replied bs out =
-    if leb (length bs) (length out) then length bs
-    else 0

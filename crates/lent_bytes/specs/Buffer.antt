@@ -10,3 +10,9 @@ unfoldable pub written : List ℕ → List ℕ → List ℕ
 written bs out =
     if leb (length bs) (length out) then bs ++ drop (length bs) out
     else out
+
+-- how many bytes were written: all, or none where the buffer is too short
+unfoldable pub replied : List ℕ → List ℕ → ℕ
+replied bs out =
+    if leb (length bs) (length out) then length bs
+    else 0

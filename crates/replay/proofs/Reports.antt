@@ -9,8 +9,7 @@ use lib.ListN.{length, drop-of-length-le}
 use borrow.Author.Tests.{leb-false, eq-eqb, ne-eqb}
 use Rattle.float.specs.Ops.{if_then_else_}
 use Rattle.float.proofs.Cases.{test}
-use Rattle.lent_bytes.specs.Buffer.{written}
-use Rattle.history_script.specs.Bytes.{replied}
+use Rattle.lent_bytes.specs.Buffer.{replied, written}
 use Rattle.replay.specs.declared.lines.Verdict.the-variants.{Equal, Differs, NotAnAnswer}
 use Rattle.lent_bytes.specs.Lists.{sameBytes}
 use Rattle.replay.specs.Builders.{besideScript}

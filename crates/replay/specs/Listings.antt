@@ -5,10 +5,9 @@ use mathlib.Core.List.{List}
 use lib.Dec.{eqb, leb}
 use lib.ListN.{length, take, drop, getD, replicate}
 use Rattle.lent_bytes.specs.Lists.{sameBytes}
-use Rattle.lent_bytes.specs.Buffer.{written}
+use Rattle.lent_bytes.specs.Buffer.{replied, written}
 use Rattle.float.specs.Ops.{if_then_else_}
 use Rattle.column_listing.specs.Listing.{listingOf}
-use Rattle.column_listing.specs.Answers.{replied}
 use Rattle.replay.specs.declared.lines.Verdict.{Verdict}
 use Rattle.replay.specs.declared.lines.Verdict.the-variants.{Equal, Differs, NotAnAnswer}
 use Rattle.replay.specs.Fields.{isField, fieldBytes}

@@ -15,6 +15,7 @@ use Rattle.refusals.specs.declared.Refusal.{Refusal}
 use Rattle.refusals.specs.declared.Refusal.the-variants.{NoStrings, BufferTooShort}
 use Rattle.refusals.specs.declared.Verdict.{Verdict}
 use Rattle.refusals.specs.declared.Verdict.the-variants.{Sound, Refused}
+use Rattle.refusals.specs.Refusals.{numberIn}
 use Rattle.refusals.specs.Result.{Result, refused, accepted, judged, andThen}
 use Rattle.string_set.specs.StringSet.{readSet}
 use Rattle.simple_umi.specs.declared.answers.Answer.{Answer}
@@ -28,7 +29,7 @@ use Rattle.simple_umi.specs.declared.caller.SimpleConsensusCaller.{Simpl
 use Rattle.simple_umi.specs.Consensus.{Found, withBuilder, defaultCaller, consensusOf, umisOf}
 use Rattle.simple_umi.specs.Duplex.{FoundDuplex}
 use Rattle.simple_umi.specs.Places.{groupFound, groupResult}
-use Rattle.simple_umi.specs.Answers.{roomFor, callConsensusIn, consensusIn, consensusUmisIn, verdictIn, answerOf, flaggedOf, duplexAnswerOf, answerNumber, flaggedNumber, duplexNumber, numberIn, answerLength, flaggedLength, duplexLength, bufferAfter, callerAfter}
+use Rattle.simple_umi.specs.Answers.{roomFor, callConsensusIn, consensusIn, consensusUmisIn, verdictIn, answerOf, flaggedOf, duplexAnswerOf, answerNumber, flaggedNumber, duplexNumber, answerLength, flaggedLength, duplexLength, bufferAfter, callerAfter}
 use Rattle.simple_umi.proofs.Groups.{call-none, call-some}
 
 -- ---- a text in an array of 255

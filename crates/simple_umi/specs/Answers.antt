@@ -81,11 +81,6 @@ abbrev pub duplexNumber : DuplexAnswer → ℕ
 duplexNumber (duplex.Refused r) = numberOf r
 duplexNumber (duplex.Given n a b) = 0
 
--- the number by which something is refused, 0 where it is accepted
-abbrev pub numberIn : {A : Type 0} → Result A → ℕ
-numberIn (refused r) = numberOf r
-numberIn (accepted a) = 0
-
 -- the length of the string that was given, 0 for a refusal
 abbrev pub answerLength : Answer → ℕ
 answerLength (answer.Refused r) = 0

@@ -1,20 +1,19 @@
 -- What is refused in a list of strings. Definitions only.
 use Prim.Native.Nat.{ℕ}
-use mathlib.Core.List.{List, [], _∷_}
+use mathlib.Core.List.{List}
 use lib.ListN.{length}
 use Rattle.float.specs.Ops.{if_then_else_}
 use Rattle.lent_bytes.specs.Lists.{any, isEmpty}
 use Rattle.refusals.specs.declared.Refusal.the-variants.{NoStrings, LengthsDiffer, NotAscii}
 use Rattle.refusals.specs.declared.Verdict.{Verdict}
 use Rattle.refusals.specs.declared.Verdict.the-variants.{Sound, Refused}
-use Rattle.refusals.specs.Result.{orElse}
+use Rattle.refusals.specs.Result.{firstRefused}
 use Rattle.umi_column.specs.Verdicts.{verdictOf}
 use Rattle.simple_umi.specs.Strings.{firstOf, columnsOf, alike, isFamily, isHigh}
 
 -- the first faulty column decides
 unfoldable pub firstRefusal : List (List ℕ) → Verdict
-firstRefusal [] = Sound
-firstRefusal (c ∷ cs) = orElse (verdictOf c) (firstRefusal cs)
+firstRefusal columns = firstRefused verdictOf columns
 
 -- of strings of a width: 7 looks at all of them first
 unfoldable pub familyVerdict : ℕ → List (List ℕ) → Verdict

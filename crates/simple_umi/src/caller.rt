@@ -2,10 +2,11 @@
 ghost use mathlib.Core.Path.{_≡_};
 ghost use Prim.Native.Nat.{_≤_};
 ghost use lib.ListN.{take};
+ghost use Rattle.refusals.specs.Refusals.{numberIn};
 ghost use Rattle.refusals.specs.Result.{andThen};
 ghost use Rattle.umi_column.specs.Dna.{isDnaBase};
 ghost use Rattle.simple_umi.specs.Consensus.{callerAt, defaultCaller, withBuilder, umisOf};
-ghost use Rattle.simple_umi.specs.Answers.{roomFor, callConsensusIn, consensusUmisIn, answerOf, answerNumber, numberIn, answerLength, bufferAfter, callerAfter};
+ghost use Rattle.simple_umi.specs.Answers.{roomFor, callConsensusIn, consensusUmisIn, answerOf, answerNumber, answerLength, bufferAfter, callerAfter};
 ghost use Rattle.simple_umi.specs.Places.{Trimmed, stringsAt};
 use crate::answers::Answer;
 use crate::family::alike;

@@ -3,10 +3,11 @@
 ghost use mathlib.Core.Path.{_≡_};
 ghost use Prim.Native.Nat.{_≤_};
 ghost use lib.ListN.{length};
+ghost use Rattle.refusals.specs.Refusals.{numberIn};
 ghost use Rattle.refusals.specs.Result.{andThen};
 ghost use Rattle.string_set.specs.StringSet.{readSet};
 ghost use Rattle.simple_umi.specs.Consensus.{defaultCaller, consensusOf};
-ghost use Rattle.simple_umi.specs.Answers.{consensusIn, duplexIn, flaggedOf, flaggedNumber, flaggedLength, duplexAnswerOf, duplexNumber, duplexLength, numberIn, pairFound, bufferAfter, callerAfter};
+ghost use Rattle.simple_umi.specs.Answers.{consensusIn, duplexIn, flaggedOf, flaggedNumber, flaggedLength, duplexAnswerOf, duplexNumber, duplexLength, pairFound, bufferAfter, callerAfter};
 use crate::answers::DuplexAnswer;
 use crate::answers::FlaggedAnswer;
 use crate::caller::SimpleConsensusCaller;

@@ -9,7 +9,7 @@ use lib.Dec.{leb}
 use lib.ListN.{length}
 use lib.Seq.{length-take-le}
 use Rattle.float.proofs.Cases.{choice}
-use Rattle.column_listing.specs.Answers.{replied}
+use Rattle.lent_bytes.specs.Buffer.{replied}
 use Rattle.listing.proofs.main.Statement.{statement}
 use Rattle.listing.proofs.main.Tie as tie
 

@@ -25,8 +25,8 @@ use Rattle.column_file.specs.Format.{Observation}
 use Rattle.column_file.specs.Reading.{File}
 use Rattle.column_calls.specs.Columns.{builderOf, columnCall}
 use Rattle.listing_lines.specs.Lines.{header, lineOf, columnLine, columnLines, flag, umiLine}
 use Rattle.column_listing.specs.Listing.{linesOf}
-use Rattle.column_listing.specs.Laws.{isNewline, isLine, lineAt, OneLineEach}
+use Rattle.column_listing_laws.specs.Laws.{isNewline, isLine, lineAt, OneLineEach}
 
 -- ---- fields without a newline make one line
 
