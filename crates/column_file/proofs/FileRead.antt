@@ -8,7 +8,6 @@ use Rattle.refusals.specs.declared.Refusal.{Refusal}
 use Rattle.refusals.specs.declared.Refusal.the-variants.{FileTooLong, CutOff, BadSettings}
 use Rattle.refusals.specs.declared.Verdict.{Verdict}
 use Rattle.refusals.specs.declared.Verdict.the-variants.{Sound, Refused}
-use Rattle.refusals.specs.Refusals.{numberIn}
 use Rattle.refusals.specs.Result.{Result, refused, accepted, andThen}
 use Rattle.string_set.specs.Readers.{alone}
 use Rattle.string_set.proofs.Readers.{lone-long, lone-fits}
@@ -20,15 +19,6 @@ use Rattle.column_file.specs.Reading.{settingsOf, columnsVerdict, File, 
 use Rattle.column_file.specs.Places.{columnsSize, readingOf, readingNumber}
 use Rattle.column_file.proofs.SettingsRead.{bytesOf, only-bad, settings-three}
 use Rattle.column_file.proofs.Sections.{parts, Found}
-
--- an answer's number is the file's
-numbered : (r : Reading) (q : Result File) → r ≡ readingOf q → readingNumber r ≡ numberIn q
-numbered r (refused x) e = ap readingNumber e
-numbered r (accepted f) e = ap readingNumber e
-
--- both things that `read` says
-pub answered : (s : List ℕ) (r : Reading) → r ≡ readingOf (readFile s) → (r ≡ readingOf (readFile s)) × (readingNumber r ≡ numberIn (readFile s))
-answered s r e = (e, numbered r (readFile s) e)
 
 -- by what its bytes make up
 module _ (s : List ℕ) where

@@ -1,3 +1,4 @@
+pub mod Numbers
 pub mod ColumnWalk
 pub mod SettingsRead
 pub mod Sections

@@ -113,6 +113,14 @@ abbrev pub readingNumber : Reading → ℕ
 readingNumber (reading.Refused r) = numberOf r
 readingNumber (reading.Accepted p) = 0
 
+abbrev pub settingsNumber : SettingsReading → ℕ
+settingsNumber (settings.Refused r) = numberOf r
+settingsNumber (settings.Accepted g n) = 0
+
+abbrev pub columnNumber : ColumnReading → ℕ
+columnNumber (columnReading.Refused r) = numberOf r
+columnNumber (columnReading.Accepted n) = 0
+
 -- ---- where the parts of an accepted file lie
 
 pub record Layout (s : List ℕ) (f : File) : Type 0 where

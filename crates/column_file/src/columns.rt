@@ -3,10 +3,11 @@ ghost use mathlib.Core.Path.{_≡_};
 ghost use Prim.Native.Nat.{_+_, _*_, _≤_};
 ghost use lib.ListN.{length, drop};
 ghost use Rattle.refusals.specs.declared.Verdict.the-variants.{Sound};
+ghost use Rattle.refusals.specs.Refusals.{numberIn};
 ghost use Rattle.string_set.specs.Readers.{many};
 ghost use Rattle.column_file.specs.Format.{column};
 ghost use Rattle.column_file.specs.Reading.{columnVerdict, readColumn};
-ghost use Rattle.column_file.specs.Places.{columnAt, observationsAt, walkedFrom, columnReadingOf};
+ghost use Rattle.column_file.specs.Places.{columnAt, observationsAt, walkedFrom, columnReadingOf, columnNumber};
 use crate::settings::word_at;
 use refusals::Refusal;
 use refusals::Verdict;
@@ -87,7 +88,8 @@ pub(crate) fn walk_columns(file: &[u8], at: usize, n: usize) -> Walked
 
 // Reads one column, alone.
 pub fn read_column(part: &[u8]) -> ColumnReading
-    ensures { λ r. ⌜ r ≡ columnReadingOf (readColumn (now (part .entry))) ⌝ }
+    ensures reading { λ r. ⌜ r ≡ columnReadingOf (readColumn (now (part .entry))) ⌝ }
+    ensures number { λ r. ⌜ columnNumber r ≡ numberIn (readColumn (now (part .entry))) ⌝ }
 {
     if 65536 < part.len() {
         return ColumnReading::Refused(Refusal::FileTooLong);

@@ -3,8 +3,9 @@ ghost use mathlib.Core.Path.{_≡_};
 ghost use Prim.Native.Nat.{_+_, _≤_, _<_};
 ghost use lib.ListN.{length, take, drop};
 ghost use Rattle.lent_bytes.specs.Lists.{byteAt};
+ghost use Rattle.refusals.specs.Refusals.{numberIn};
 ghost use Rattle.column_file.specs.Reading.{settingsOf, readSettings};
-ghost use Rattle.column_file.specs.Places.{headOf, settledOf, settingsReadingOf, wordAt};
+ghost use Rattle.column_file.specs.Places.{headOf, settledOf, settingsReadingOf, settingsNumber, wordAt};
 use phred::PhredScore;
 use refusals::Refusal;
 use tie_rules::TieRule;
@@ -83,7 +84,8 @@ pub(crate) fn settled_at(file: &[u8]) -> Settled
 
 // Reads settings and the number of columns that follow, alone.
 pub fn read_settings(part: &[u8]) -> SettingsReading
-    ensures { λ r. ⌜ r ≡ settingsReadingOf (readSettings (now (part .entry))) ⌝ }
+    ensures reading { λ r. ⌜ r ≡ settingsReadingOf (readSettings (now (part .entry))) ⌝ }
+    ensures number { λ r. ⌜ settingsNumber r ≡ numberIn (readSettings (now (part .entry))) ⌝ }
 {
     if 65536 < part.len() {
         return SettingsReading::Refused(Refusal::FileTooLong);

@@ -8,7 +8,7 @@ ghost use Rattle.replay.specs.Fields.{areDigits, byteOf, isField, fieldB
 use crate::hex;
 
 // A space, and digits after it.
-pub fn is_field(field: &[u8]) -> bool
+pub(crate) fn is_field(field: &[u8]) -> bool
     requires { ⌜ 0 < length (now field) ⌝ }
     ensures { λ r. ⌜ r ≡ isField (now (field .entry)) ⌝ }
 {
@@ -32,7 +32,7 @@ fn are_digits(bytes: &[u8]) -> bool
 }
 
 // The bytes of a field, of which there are as many as the buffer has.
-pub fn read_field(field: &[u8], out: &mut [u8])
+pub(crate) fn read_field(field: &[u8], out: &mut [u8])
     requires { ⌜ (isField (now field) ≡ true) × (length (now field) ≡ 2 * length (now out) + 1) ⌝ }
     ensures { λ _. ⌜ now (out .exit) ≡ fieldBytes (now (field .entry)) ⌝ }
 {

@@ -5,6 +5,7 @@ use native.Mathlib.Omega.{arith}
 use borrow.Author.Needs.{needs}
 use lib.ListN.{length}
 use Rattle.column_file.specs.Places.{observationsAt, columnReadingOf}
+use Rattle.column_file.proofs.Numbers.{column-said}
 use Rattle.column_file.proofs.ColumnWalk.{observations-length, column-none, column-is, column-inside}
 use Rattle.column_file.proofs.ColumnWalk.{read-long, read-cut, read-left, read-refused, read-sound}
 use Rattle.column_file.proofs.columns.read_column.Statement.{statement}
@@ -19,7 +20,7 @@ inside c =
     column-inside s 0 (r .result) (r .ensures) _ _ (c .before .place .given .1)
 
 returns : tie.Need-returns
-returns c = ap columnReadingOf (sym (read-long _ (c .if1 .taken)))
+returns c = column-said _ _ (ap columnReadingOf (sym (read-long _ (c .if1 .taken))))
 
 column-at-requires : tie.Need-column-at-requires
 column-at-requires c κs = search needs
@@ -34,7 +35,7 @@ returns-2 : tie.Need-returns-2
 returns-2 c =
     let s = c .before .before .before .before .before .args .part .now in
     let r = c .before .before .column-at in
-    ap columnReadingOf (sym (read-cut s (omega arith) (column-none s 0 (r .result) (r .ensures) (c .enum-told .given .1))))
+    column-said s _ (ap columnReadingOf (sym (read-cut s (omega arith) (column-none s 0 (r .result) (r .ensures) (c .enum-told .given .1)))))
 
 mul-if2 : tie.Need-mul-if2
 mul-if2 c = omega (arith, inside c)
@@ -47,7 +48,7 @@ returns-3 c =
     let s = c .before .before .before .before .before .before .before .args .part .now in
     let r = c .before .before .before .before .column-at in
     let is = column-is s 0 (r .result) (r .ensures) _ _ (c .before .before .place .given .1) in
-    ap columnReadingOf (sym (read-left s (omega arith) _ _ is (c .if2 .taken)))
+    column-said s _ (ap columnReadingOf (sym (read-left s (omega arith) _ _ is (c .if2 .taken))))
 
 column-verdict-requires : tie.Need-column-verdict-requires
 column-verdict-requires c κs = inside (c .before)
@@ -66,7 +67,7 @@ returns-4 c =
     let n = c .before .before .before .before .before .before .place .given .0 .1 .0 in
     let is = column-is s 0 (r .result) (r .ensures) start n (c .before .before .before .before .before .before .place .given .1) in
     let bad = sym (c .before .before .before .column-verdict .ensures) ∙ c .before .verdict .given .1 in
-    ap columnReadingOf (sym (read-refused s (omega arith) (observationsAt s start n) (start + 2 * n) is (omega arith) _ bad))
+    column-said s _ (ap columnReadingOf (sym (read-refused s (omega arith) (observationsAt s start n) (start + 2 * n) is (omega arith) _ bad)))
 
 returns-5 : tie.Need-returns-5
 returns-5 c =
@@ -76,7 +77,7 @@ returns-5 c =
     let n = c .before .before .before .before .before .place .given .0 .1 .0 in
     let is = column-is s 0 (r .result) (r .ensures) start n (c .before .before .before .before .before .place .given .1) in
     let sound = sym (c .before .before .column-verdict .ensures) ∙ c .enum-told2 .given .1 in
-    rw (read-sound s (omega arith) (observationsAt s start n) (start + 2 * n) is (omega arith) sound, observations-length s start n)
+    column-said s _ (rw (read-sound s (omega arith) (observationsAt s start n) (start + 2 * n) is (omega arith) sound, observations-length s start n))
 
 pub read-column-spec : {M : Type 1} → statement M
 read-column-spec =

@@ -6,9 +6,10 @@ use Rattle.string_set.specs.Readers.{alone}
 use Rattle.column_file.specs.Format.{sections}
 use Rattle.column_file.specs.Reading.{settingsOf}
 use Rattle.column_file.specs.Places.{readingOf}
+use Rattle.column_file.proofs.Numbers.{file-said}
 use Rattle.column_file.proofs.SettingsRead.{bytesOf, is-refused, is-accepted}
 use Rattle.column_file.proofs.Sections.{parts, Found, found, found-cut}
-use Rattle.column_file.proofs.FileRead.{answered, file-long, file-cut, file-unsettled, file-faulty, accepted-at}
+use Rattle.column_file.proofs.FileRead.{file-long, file-cut, file-unsettled, file-faulty, accepted-at}
 use Rattle.column_file.proofs.file.read.Statement.{statement}
 use Rattle.column_file.proofs.file.read.Tie as tie
 
@@ -20,7 +21,7 @@ where-found c = found _ _ _ _ _ (sym (c .before .found .given .1) ∙ c .before 
 returns : tie.Need-returns
 returns c =
     let s = c .before .before .args .file .now in
-    answered s _ (ap readingOf (sym (file-long s (c .if1 .taken))))
+    file-said s _ (ap readingOf (sym (file-long s (c .if1 .taken))))
 
 sections-of-requires : tie.Need-sections-of-requires
 sections-of-requires c κs = search needs
@@ -35,7 +36,7 @@ returns-2 : tie.Need-returns-2
 returns-2 c =
     let s = c .before .before .before .before .before .args .file .now in
     let cut = found-cut (sections s) (sym (c .enum-told .given .1) ∙ c .before .before .sections-of .ensures) in
-    answered s _ (ap readingOf (sym (file-cut s (omega arith) cut)))
+    file-said s _ (ap readingOf (sym (file-cut s (omega arith) cut)))
 
 settled-at-requires : tie.Need-settled-at-requires
 settled-at-requires c κs =
@@ -53,7 +54,7 @@ returns-3 c =
     let s = c .before .before .before .before .before .before .before .before .before .args .file .now in
     let d = where-found (c .before .before .before) in
     let bad = is-refused (settingsOf (bytesOf s)) _ (sym (c .before .before .settled-at .ensures) ∙ c .enum-told2 .given .1) in
-    answered s _ (ap readingOf (sym (file-unsettled s (omega arith) (d .sections) (d .is) _ bad)))
+    file-said s _ (ap readingOf (sym (file-unsettled s (omega arith) (d .sections) (d .is) _ bad)))
 
 enum-known-verdict : tie.Need-enum-known-verdict
 enum-known-verdict c = search needs
@@ -68,14 +69,14 @@ returns-4 c =
     let t = c .before .before .before .before in
     let good = is-accepted (settingsOf (bytesOf s)) _ (sym (t .before .before .settled-at .ensures) ∙ t .tested .given .1) in
     let faulty = sym (d .verdict) ∙ c .before .verdict .given .1 in
-    answered s _ (ap readingOf (sym (file-faulty s (omega arith) (d .sections) (d .is) _ good _ faulty)))
+    file-said s _ (ap readingOf (sym (file-faulty s (omega arith) (d .sections) (d .is) _ good _ faulty)))
 
 returns-5 : tie.Need-returns-5
 returns-5 c =
     let s = c .before .before .before .before .before .before .before .before .before .before .before .before .args .file .now in
     let t = c .before .before .before in
     let good = is-accepted (settingsOf (bytesOf s)) _ (sym (t .before .before .settled-at .ensures) ∙ t .tested .given .1) in
-    answered s _ (accepted-at s (omega arith) _ _ _ _ (where-found (c .before .before .before .before .before .before)) _ good (c .enum-told3 .given .1))
+    file-said s _ (accepted-at s (omega arith) _ _ _ _ (where-found (c .before .before .before .before .before .before)) _ good (c .enum-told3 .given .1))
 
 pub read-spec : {M : Type 1} → statement M
 read-spec =
