@@ -13,6 +13,10 @@ BUILDERS ?= 20000
 SETS ?= 20000
 FILES ?= 20000
 
+# For how many minutes `make soak` goes on, and the seed of its first round.
+MINUTES ?= 60
+SEED ?= 1
+
 # The file that `make run` lists.
 SAMPLE ?= samples/document.col
 
@@ -29,7 +33,7 @@ SKIPPED = 77
 unexport EXPORTS_FOLDER
 
 .DEFAULT_GOAL := help
-.PHONY: help run test check library differential vectors bench fmt clean
+.PHONY: help run test check library differential soak vectors bench fmt clean
 
 help: ## list the targets
 	@sed -n 's/^\([a-z]*\):[^#]*## \(.*\)/\1\t\2/p' $(MAKEFILE_LIST) | expand -t 14
@@ -64,6 +68,9 @@ differential: library ## compare with the Rust, bit for bit, where the Rust can 
 		differential/run builders --builders $(BUILDERS) && \
 		differential/run umis --sets $(SETS) && \
 		differential/run files --files $(FILES) || [ $$? -eq $(SKIPPED) ]
+
+soak: library ## compare what is drawn for as long as one likes (MINUTES=60 SEED=1)
+	@differential/run soak --minutes $(MINUTES) --seed $(SEED)
 
 vectors: library ## write the stored list of the Rust's answers anew (VECTORS=FILE)
 	differential/run vectors $(VECTORS)

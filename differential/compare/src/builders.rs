@@ -2,7 +2,7 @@
 
 mod known;
 mod states;
-mod tally;
+pub mod tally;
 pub mod vectors;
 
 use self::states::{KINDS, chosen};
@@ -18,24 +18,33 @@ const REFUSED: usize = 260;
 /// Compares so many builders, prints tables, and says whether each difference has a known cause.
 pub fn run(builders: u64, seed: u64) -> bool {
     println!("builders: ours beside the Rust's, seed {seed}, {}", environment::c_library());
-    let mut random = Random::new(seed);
     let mut tally = Tally::default();
+    compare_chosen(&mut tally);
+    compare_drawn(builders, seed, &mut tally);
+    tally.print();
+    let all_refused = refused::of_builders();
+    let holds = tally.holds() && all_refused;
+    println!("builders: {}", if holds { "as demanded" } else { "FAILED" });
+    holds
+}
+
+fn compare_chosen(tally: &mut Tally) {
     // the short one first, so that it is the one which is printed
     for script in [short_script(), long_script()] {
         let settings = Settings { pre: 45, post: 40, rule: 0 };
         chosen().iter().for_each(|state| tally.compare(KINDS.len(), settings, state, &script));
     }
+}
+
+/// Compares so many builders, besides those that are counted already.
+pub fn compare_drawn(builders: u64, seed: u64, tally: &mut Tally) {
+    let mut random = Random::new(seed);
     for turn in 0..builders {
         let kind = (turn % KINDS.len() as u64) as usize;
         let settings = draws::settings(random.below(512), &mut random);
         let state = (KINDS[kind].draw)(settings, &mut random);
         tally.compare(kind, settings, &state, &script(settings.rule, &mut random));
     }
-    tally.print();
-    let all_refused = refused::of_builders();
-    let holds = tally.holds() && all_refused;
-    println!("builders: {}", if holds { "as demanded" } else { "FAILED" });
-    holds
 }
 
 /// Reports under both rules and after an observation.

@@ -14,11 +14,11 @@ mod parts;
 mod rates;
 pub mod reader;
 mod rooms;
-mod row;
+pub mod row;
 mod sample;
 mod seen;
 pub mod sums;
-mod tally;
+pub mod tally;
 pub mod usual;
 pub mod vectors;
 
@@ -33,23 +33,29 @@ use crate::umis::panics;
 pub fn run(files: u64, seed: u64) -> bool {
     println!("files: ours beside the Rust's, seed {seed}, {}", environment::c_library());
     panics::silence();
-    let mut random = Random::new(seed);
     let mut rows = vec![named::row()];
     rows.extend(sample::rows());
     rows.extend(exhaustive::rows());
     rows.push(observations::row());
-    rows.push(rates::row(&mut random));
-    rows.extend(drawn(files, &mut random));
-    rows.push(large::row(&mut random));
-    rows.push(rooms::row(files, &mut random));
-    rows.push(sums::row(files, &mut random));
+    rows.extend(by_seed(files, seed));
     let holds = tally::print(&rows);
     println!("files: {}", if holds { "as demanded" } else { "FAILED" });
     holds
 }
 
+/// The rows that depend on the seed.
+pub fn by_seed(files: u64, seed: u64) -> Vec<Row> {
+    let mut random = Random::new(seed);
+    let mut rows = vec![rates::row(&mut random)];
+    rows.extend(of_each_kind(files, &mut random));
+    rows.push(large::row(&mut random));
+    rows.push(rooms::row(files, &mut random));
+    rows.push(sums::row(files, &mut random));
+    rows
+}
+
 /// A row of each kind, together so many files, each kind as often as its weight says.
-fn drawn(files: u64, random: &mut Random) -> Vec<Row> {
+fn of_each_kind(files: u64, random: &mut Random) -> Vec<Row> {
     let mut rows: Vec<Row> = KINDS.iter().map(|kind| Row::new(kind.name)).collect();
     let turns = KINDS.iter().enumerate();
     let turns = turns.flat_map(|(place, kind)| (0..kind.weight).map(move |_| place));

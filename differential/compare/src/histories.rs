@@ -1,9 +1,7 @@
 //! Histories of a builder, ours beside the Rust's: whatever it reports, bit for bit.
 
 pub mod columns;
-mod tally;
-
-use std::collections::HashSet;
+pub mod tally;
 
 use self::columns::{KINDS, Observation, drawn_kind};
 use self::tally::{Place, Tally};
@@ -19,28 +17,30 @@ const COLUMNS: usize = 256;
 /// Compares so many histories, prints tables, and says whether nothing differs.
 pub fn run(histories: u64, seed: u64) -> bool {
     println!("histories: ours beside the Rust's, seed {seed}, {}", environment::c_library());
-    let mut random = Random::new(seed);
     let mut tally = Tally::default();
-    let mut rates = (HashSet::new(), HashSet::new());
-    let mut turn = 0;
-    while tally.columns() < histories {
-        let drawn = Drawn::new(draws::settings(turn, &mut random), &mut random);
-        rates.0.insert(drawn.settings.pre);
-        rates.1.insert(drawn.settings.post);
-        compare(&drawn, &mut tally);
-        turn += 1;
-    }
+    compare_drawn(histories, seed, &mut tally);
     tally.print();
-    println!("histories: {} pre rates and {} post rates", rates.0.len(), rates.1.len());
     let all_refused = refused::of_histories();
     let holds = tally.holds() && all_refused;
     println!("histories: {}", if holds { "as demanded" } else { "FAILED" });
     holds
 }
 
+/// Compares so many histories, besides those that are counted already.
+pub fn compare_drawn(histories: u64, seed: u64, tally: &mut Tally) {
+    let mut random = Random::new(seed);
+    let enough = tally.columns() + histories;
+    let mut turn = 0;
+    while tally.columns() < enough {
+        let settings = draws::settings(turn, &mut random);
+        compare(&Drawn::new(settings, &mut random), tally);
+        turn += 1;
+    }
+}
+
 fn compare(drawn: &Drawn, tally: &mut Tally) {
     let run = Run { settings: drawn.settings, state: None, script: &drawn.script.bytes };
-    tally.scripts += 1;
+    tally.count_script(drawn.settings);
     for (kind, depth) in &drawn.columns {
         tally.count_column(*kind, *depth);
     }

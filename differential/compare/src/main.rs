@@ -22,6 +22,7 @@ mod history;
 mod phred;
 mod random;
 mod recorded;
+mod soak;
 mod table;
 mod tables;
 mod umis;
@@ -35,18 +36,21 @@ usage: compare elementary [--arguments N] [--seed N]   the four elementary funct
        compare builders [--builders N] [--seed N]      builders of any state, bit for bit
        compare umis [--sets N] [--seed N]              the functions of simple_umi.rs, bit for bit
        compare files [--files N] [--seed N]            the listings of column files, byte for byte
+       compare soak [--minutes N] [--seed N]           what these four draw, round after round
        compare history PRE POST RULE SCRIPT [STATE]    one history again, field by field
        compare vectors FILE [--seed N]                 write the stored list of the Rust's answers
        compare bench [--markdown] [--seed N]           times, the Rust's beside ours
 The seed is also taken from the variable DIFFERENTIAL_SEED.";
 
 /// How many arguments of each range are compared, how many histories, how many builders, how many
-/// drawn string sets, how many drawn column files, and the seed, where nothing else is asked.
+/// drawn string sets, how many drawn column files, how many minutes, and the seed, where nothing else
+/// is asked.
 const ARGUMENTS: u64 = 1_000_000;
 const HISTORIES: u64 = 1_000_000;
 const BUILDERS: u64 = 20_000;
 const SETS: u64 = 20_000;
 const FILES: u64 = 20_000;
+const MINUTES: u64 = 60;
 const SEED: u64 = 1;
 
 /// What is to be done.
@@ -58,6 +62,7 @@ enum Command {
     Builders,
     Umis,
     Files,
+    Soak,
     History(Again),
     Vectors(PathBuf),
     Bench,
@@ -71,6 +76,7 @@ struct Request {
     builders: u64,
     sets: u64,
     files: u64,
+    minutes: u64,
     seed: u64,
     markdown: bool,
 }
@@ -83,6 +89,7 @@ impl Request {
         let mut builders = BUILDERS;
         let mut sets = SETS;
         let mut files = FILES;
+        let mut minutes = MINUTES;
         let mut markdown = false;
         let mut words = Vec::new();
         while let Some(word) = line.next() {
@@ -92,6 +99,7 @@ impl Request {
                 "--builders" => builders = number(line.next())?,
                 "--sets" => sets = number(line.next())?,
                 "--files" => files = number(line.next())?,
+                "--minutes" => minutes = number(line.next())?,
                 "--seed" => seed = number(line.next())?,
                 "--markdown" => markdown = true,
                 option if option.starts_with('-') => return Err(format!("no option {option}")),
@@ -99,7 +107,7 @@ impl Request {
             }
         }
         let command = command(&words)?;
-        Ok(Self { command, arguments, histories, builders, sets, files, seed, markdown })
+        Ok(Self { command, arguments, histories, builders, sets, files, minutes, seed, markdown })
     }
 
     /// Does what is asked, and says whether all is as demanded.
@@ -112,6 +120,7 @@ impl Request {
             Command::Builders => Ok(builders::run(self.builders, self.seed)),
             Command::Umis => Ok(umis::run(self.sets, self.seed)),
             Command::Files => Ok(files::run(self.files, self.seed)),
+            Command::Soak => soak::run(self.minutes, self.seed),
             Command::History(again) => Ok(again.run()),
             Command::Vectors(file) => vectors::write(file, self.seed),
             Command::Bench => Ok(bench::run(self.seed, self.markdown)),
@@ -129,6 +138,7 @@ fn command(words: &[String]) -> Result<Command, String> {
         ["builders"] => Ok(Command::Builders),
         ["umis"] => Ok(Command::Umis),
         ["files"] => Ok(Command::Files),
+        ["soak"] => Ok(Command::Soak),
         ["history", ref words @ ..] => Again::read(words).map(Command::History),
         ["vectors", file] => Ok(Command::Vectors(file.into())),
         ["bench"] => Ok(Command::Bench),

@@ -43,6 +43,11 @@ impl Known {
         }
     }
 
+    /// How many reports differ for each cause.
+    pub fn reports(&self) -> impl Iterator<Item = (Cause, u64)> {
+        self.lines.iter().map(|line| (line.cause, line.reports))
+    }
+
     pub fn print(&self) {
         let mut table = Table::new(&["known difference", "reports", "another call"], 1..3);
         for line in &self.lines {
@@ -50,6 +55,11 @@ impl Known {
             table.row([vec![line.cause.name()], counts.to_vec()].concat());
         }
         print!("{}", table.aligned());
+        self.print_examples();
+    }
+
+    /// One of each cause, in which the call differs where there is such a one.
+    pub fn print_examples(&self) {
         for line in &self.lines {
             if let Some(example) = line.called.as_ref().or(line.example.as_ref()) {
                 println!("builders: {}: {example}", line.cause.name());

@@ -31,7 +31,7 @@ struct OfKind {
 #[derive(Default)]
 pub struct Tally {
     kinds: [OfKind; KINDS.len() + 1],
-    known: Known,
+    pub known: Known,
     totals: Totals,
     /// Reports that differ for no known cause by their fields, and the first ones.
     unknown: [u64; Field::ALL.len()],
@@ -101,14 +101,48 @@ impl Tally {
 
     fn keep(&mut self, run: &Run, problem: &str) {
         if self.examples.len() < EXAMPLES {
-            self.examples.push(format!("{problem}: {run}"));
+            self.examples.push(format!("builders: {problem}: {run}"));
         }
     }
 
+    /// What differs for no known cause, and how to see it again.
+    pub fn examples(&self) -> Vec<String> {
+        self.examples.clone()
+    }
+
+    /// Has those be kept that come next.
+    pub fn forget_examples(&mut self) {
+        self.examples.clear();
+    }
+
+    fn sum(&self, part: fn(&OfKind) -> u64) -> u64 {
+        self.kinds.iter().map(part).sum()
+    }
+
+    pub fn builders(&self) -> u64 {
+        self.sum(|kind| kind.builders)
+    }
+
+    pub fn reports(&self) -> u64 {
+        self.sum(|kind| kind.reports)
+    }
+
+    /// Reports that differ for known causes alone.
+    pub fn explained(&self) -> u64 {
+        self.sum(|kind| kind.known)
+    }
+
+    /// Reports that differ otherwise, and builders without their reports.
+    pub fn unexplained(&self) -> u64 {
+        self.differing_otherwise() + self.failed
+    }
+
+    fn differing_otherwise(&self) -> u64 {
+        self.sum(|kind| kind.differing - kind.known)
+    }
+
     pub fn holds(&self) -> bool {
-        let differing = self.kinds.iter().map(|kind| kind.differing - kind.known).sum::<u64>();
-        let reports = self.kinds.iter().map(|kind| kind.reports).sum::<u64>();
-        reports > 0 && differing == 0 && self.failed == 0
+        self.reports() > 0 && self.unexplained() == 0
     }
 
     pub fn print(&self) {
@@ -120,16 +154,15 @@ impl Tally {
             println!("builders: {}: {count} reports differ for no known cause", field.name());
         }
         for example in &self.examples {
-            println!("builders: {example}");
+            println!("{example}");
         }
-        let sum = |part: fn(&OfKind) -> u64| self.kinds.iter().map(part).sum::<u64>();
         println!(
             "builders: {} builders, {} reports; {} differ for a known cause, {} otherwise; {} builders \
              without the bytes of their reports",
-            sum(|kind| kind.builders),
-            sum(|kind| kind.reports),
-            sum(|kind| kind.known),
-            sum(|kind| kind.differing - kind.known),
+            self.builders(),
+            self.reports(),
+            self.explained(),
+            self.differing_otherwise(),
             self.failed,
         );
     }

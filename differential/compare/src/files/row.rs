@@ -62,6 +62,9 @@ impl Row {
             sum.too_short += row.too_short;
             sum.differing += row.differing;
             sum.seen.add(&row.seen);
+            for known in &row.known {
+                sum.count_known(known.cause, known.texts, || known.example.clone());
+            }
         }
         sum
     }
@@ -131,20 +134,25 @@ impl Row {
         let problem = ours.difference(&demanded);
         match explained(found).filter(|explained| ours == call.demanded(&explained.text)) {
             Some(explained) => {
+                let example = || format!("file {}: {problem}", digits(file));
                 let causes = explained.causes.into_iter();
-                causes.for_each(|cause| self.count_known(cause, file, &problem));
+                causes.for_each(|cause| self.count_known(cause, 1, example));
             }
             None => self.count_difference(file, &format!("into {room} bytes, {problem}")),
         }
     }
 
-    fn count_known(&mut self, cause: Cause, file: &[u8], problem: &str) {
+    fn count_known(&mut self, cause: Cause, texts: u64, example: impl FnOnce() -> String) {
         if let Some(known) = self.known.iter_mut().find(|known| known.cause == cause) {
-            known.texts += 1;
+            known.texts += texts;
         } else {
-            let example = format!("file {}: {problem}", digits(file));
-            self.known.push(Known { cause, texts: 1, example });
+            self.known.push(Known { cause, texts, example: example() });
         }
+    }
+
+    /// How many texts differ for a known cause, once for each of its causes.
+    pub fn explained(&self) -> u64 {
+        self.known.iter().map(|known| known.texts).sum()
     }
 
     pub fn count_difference(&mut self, file: &[u8], problem: &str) {

@@ -1,7 +1,7 @@
 //! What came out, printed.
 
 use super::reader::NUMBERS;
-use super::row::Row;
+use super::row::{Known, Row};
 use super::seen::Seen;
 use crate::builder::{RULES, cause::Cause};
 use crate::table::Table;
@@ -13,12 +13,10 @@ const RATES: usize = 256;
 pub fn print(rows: &[Row]) -> bool {
     let all = Row::sum("all", rows);
     print!("{}", table(rows, &all).aligned());
-    for row in rows {
-        if let Some(example) = &row.example {
-            println!("files: {}: {}", row.name, example.words);
-        }
+    for example in examples(rows) {
+        println!("{example}");
     }
-    print_known(rows);
+    print_known(&all);
     print_seen(&all);
     let missing = missing(&all);
     for reply in &missing {
@@ -27,7 +25,7 @@ pub fn print(rows: &[Row]) -> bool {
     let refused = NUMBERS.iter().zip(all.refused);
     let refused: Vec<String> =
         refused.map(|(number, count)| format!("{count} by {number}")).collect();
-    let known = rows.iter().flat_map(|row| &row.known).map(|known| known.texts).sum::<u64>();
+    let known = all.explained();
     let known = if known > 0 { format!(", and {known} for a known cause") } else { String::new() };
     println!(
         "files: {} files, {} calls compared: {} listed, refused {}; {} differ{known}",
@@ -40,14 +38,21 @@ pub fn print(rows: &[Row]) -> bool {
     all.differing == 0 && missing.is_empty()
 }
 
+/// What differs, with the shortest file of each row.
+pub fn examples(rows: &[Row]) -> Vec<String> {
+    let words = |row: &Row| {
+        let example = row.example.as_ref()?;
+        Some(format!("files: {}: {}", row.name, example.words))
+    };
+    rows.iter().filter_map(words).collect()
+}
+
 /// The texts that differ for a cause that is known, and one of each.
-fn print_known(rows: &[Row]) {
-    let known = || rows.iter().flat_map(|row| &row.known);
+pub fn print_known(all: &Row) {
     for cause in Cause::known() {
-        let of_cause = || known().filter(|known| known.cause == cause);
-        if let Some(first) = of_cause().next() {
-            let texts: u64 = of_cause().map(|known| known.texts).sum();
-            let (name, example) = (cause.name(), &first.example);
+        if let Some(known) = all.known.iter().find(|known| known.cause == cause) {
+            let Known { texts, example, .. } = known;
+            let name = cause.name();
             println!("files: {texts} texts differ by {name}, which is known: {example}");
         }
     }

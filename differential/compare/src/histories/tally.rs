@@ -1,5 +1,7 @@
 //! A count over many reports.
 
+use std::collections::HashSet;
+
 use super::columns::KINDS;
 use crate::builder::cause::{Cause, causes};
 use crate::builder::report::{Field, Report};
@@ -40,7 +42,9 @@ struct OfKind {
 /// What came out of comparing many reports.
 #[derive(Default)]
 pub struct Tally {
-    pub scripts: u64,
+    scripts: u64,
+    /// The pre rates and the post rates of the scripts.
+    rates: [HashSet<u8>; 2],
     kinds: [OfKind; KINDS.len()],
     fields: [OfField; Field::ALL.len()],
     /// Scripts for which there are no reports to compare, and one of them.
@@ -76,9 +80,24 @@ impl Tally {
         self.kinds.iter().map(|kind| kind.columns).sum()
     }
 
+    pub fn reports(&self) -> u64 {
+        self.sum().reports
+    }
+
+    /// Reports that differ, whatever the cause, and scripts without their reports.
+    pub fn unexplained(&self) -> u64 {
+        self.sum().differing + self.failed
+    }
+
     pub fn holds(&self) -> bool {
-        let sum = self.sum();
-        sum.reports > 0 && sum.differing == 0 && self.failed == 0
+        self.reports() > 0 && self.unexplained() == 0
+    }
+
+    pub fn count_script(&mut self, settings: Settings) {
+        self.scripts += 1;
+        for (rates, rate) in self.rates.iter_mut().zip([settings.pre, settings.post]) {
+            rates.insert(rate);
+        }
     }
 
     /// Counts a column of a kind with so many observations.
@@ -152,13 +171,25 @@ impl Tally {
         self.kinds.iter().fold(OfKind::default(), add)
     }
 
+    /// What differs, and how to see it again.
+    pub fn examples(&self) -> Vec<String> {
+        let of_fields = self.fields.iter().filter_map(|field| field.example.as_ref());
+        let of_fields = of_fields.map(|example| &example.words);
+        of_fields.chain(&self.failed_example).cloned().collect()
+    }
+
+    /// Has those be kept that come next.
+    pub fn forget_examples(&mut self) {
+        for field in &mut self.fields {
+            (field.tried, field.example) = (0, None);
+        }
+        self.failed_example = None;
+    }
+
     pub fn print(&self) {
         print!("{}", self.kinds_table().aligned());
         print!("{}", self.fields_table().aligned());
-        for example in self.fields.iter().filter_map(|field| field.example.as_ref()) {
-            println!("{}", example.words);
-        }
-        if let Some(example) = &self.failed_example {
+        for example in self.examples() {
             println!("{example}");
         }
         let sum = self.sum();
@@ -171,6 +202,8 @@ impl Tally {
             "histories: {} reports differ, {} scripts without the bytes of their reports",
             sum.differing, self.failed
         );
+        let [pre, post] = self.rates.each_ref().map(HashSet::len);
+        println!("histories: {pre} pre rates and {post} post rates");
     }
 
     fn kinds_table(&self) -> Table {

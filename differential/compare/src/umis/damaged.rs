@@ -9,22 +9,35 @@ use crate::random::Random;
 /// One set is damaged in each way for so many that are asked for.
 const ONE_IN: u64 = 200;
 
+const NAME: &str = "damaged copies";
+
 pub fn row(sets: u64, random: &mut Random) -> Row {
-    let mut row = Row::new("damaged copies");
+    let mut row = Row::new(NAME);
     let full = written(&family(FULL, 1, random));
     for set in beside_the_longest(&full) {
         row.compare_set(&set);
     }
     cut(&full, &mut row);
     change_counts(full, &mut row);
+    damage_small(sets, random, &mut row);
+    row
+}
+
+/// Of small sets alone.
+pub fn row_of_small(sets: u64, random: &mut Random) -> Row {
+    let mut row = Row::new(NAME);
+    damage_small(sets, random, &mut row);
+    row
+}
+
+fn damage_small(sets: u64, random: &mut Random, row: &mut Row) {
     for _ in 0..1 + sets / ONE_IN {
         let shape = small_shape(random);
         let set = written(&any_kind(shape, random));
-        cut(&set, &mut row);
-        add_and_remove(&set, random, &mut row);
-        change(&set, &mut row);
+        cut(&set, row);
+        add_and_remove(&set, random, row);
+        change(&set, row);
     }
-    row
 }
 
 /// As many bytes as there may be, and one more: zeros, and a set with bytes after it.

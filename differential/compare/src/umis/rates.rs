@@ -1,7 +1,5 @@
 //! Callers of other rates and qualities.
 
-use std::collections::HashSet;
-
 use super::families::{any_kind, shape};
 use super::file_form::written;
 use super::function::{Function, Rates};
@@ -9,15 +7,12 @@ use super::row::Row;
 use crate::builder::draws::{self, Qualities};
 use crate::random::Random;
 
-/// So many sets, each with its own rates. Prints how many rates there were.
+/// So many sets, each with its own rates.
 pub fn row(sets: u64, random: &mut Random) -> Row {
     let mut row = Row::new("other rates and qualities");
-    let mut seen: [HashSet<u8>; 3] = Default::default();
     for turn in 0..sets {
         let rates = drawn(turn, random);
-        for (seen, rate) in seen.iter_mut().zip([rates.pre, rates.post, rates.quality]) {
-            seen.insert(rate);
-        }
+        row.count_rates(rates);
         let shape = shape(random);
         let set = written(&any_kind(shape, random));
         row.sets += 1;
@@ -25,8 +20,6 @@ pub fn row(sets: u64, random: &mut Random) -> Row {
             row.compare_function(function, rates, &set);
         }
     }
-    let [pre, post, quality] = seen.map(|seen| seen.len());
-    println!("umis: {pre} pre rates, {post} post rates and {quality} qualities");
     row
 }
 

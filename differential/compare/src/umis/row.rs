@@ -1,5 +1,7 @@
 //! A count over the calls on sets of one kind.
 
+use std::collections::HashSet;
+
 use super::call::{Call, ROOM, calls};
 use super::condition::NUMBERS;
 use super::found::Found;
@@ -18,6 +20,8 @@ pub struct Row {
     /// How often 0 was: there is no such function.
     pub absent: u64,
     pub differing: u64,
+    /// The pre rates, the post rates and the qualities, where there are others than the defaults.
+    pub rates: [HashSet<u8>; 3],
     /// The shortest set of those that differ, the first such.
     pub example: Option<Example>,
 }
@@ -56,8 +60,17 @@ impl Row {
             }
             sum.absent += row.absent;
             sum.differing += row.differing;
+            for (sum, rates) in sum.rates.iter_mut().zip(&row.rates) {
+                sum.extend(rates);
+            }
         }
         sum
+    }
+
+    pub fn count_rates(&mut self, Rates { pre, post, quality }: Rates) {
+        for (rates, rate) in self.rates.iter_mut().zip([pre, post, quality]) {
+            rates.insert(rate);
+        }
     }
 
     /// All functions at the defaults, those of a caller also with its builder.

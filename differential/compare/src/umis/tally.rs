@@ -1,5 +1,7 @@
 //! What came out, printed.
 
+use std::collections::HashSet;
+
 use super::condition::NUMBERS;
 use super::row::Row;
 use crate::table::Table;
@@ -7,11 +9,11 @@ use crate::table::Table;
 /// Prints what came out, and says whether nothing differs and every reply was demanded.
 pub fn print(rows: &[Row]) -> bool {
     let all = Row::sum("all", rows);
+    let [pre, post, quality] = all.rates.each_ref().map(HashSet::len);
+    println!("umis: {pre} pre rates, {post} post rates and {quality} qualities");
     print!("{}", table(rows, &all).aligned());
-    for row in rows {
-        if let Some(example) = &row.example {
-            println!("umis: {}: {}", row.name, example.words);
-        }
+    for example in examples(rows) {
+        println!("{example}");
     }
     println!(
         "umis: of {} accepted, {} with the first flag, {} with the second, {} with an N, {} with a \
@@ -28,6 +30,15 @@ pub fn print(rows: &[Row]) -> bool {
     }
     println!("umis: {} sets, {} calls compared; {} differ", all.sets, all.calls, all.differing);
     all.differing == 0 && missing.is_empty()
+}
+
+/// What differs, with the shortest set of each row.
+pub fn examples(rows: &[Row]) -> Vec<String> {
+    let words = |row: &Row| {
+        let example = row.example.as_ref()?;
+        Some(format!("umis: {}: {}", row.name, example.words))
+    };
+    rows.iter().filter_map(words).collect()
 }
 
 /// The replies that were never demanded: without them the sets do not show what they are to show.
