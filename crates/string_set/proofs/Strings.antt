@@ -15,29 +15,31 @@ use Rattle.lent_bytes.specs.Lists.{byteAt}
 use Rattle.lent_bytes.proofs.Lists.{bytes-from}
 use Rattle.refusals.specs.declared.Refusal.{Refusal}
 use Rattle.refusals.specs.declared.Refusal.the-variants.{FileTooLong, CutOff}
+use Rattle.refusals.specs.Refusals.{numberIn}
 use Rattle.refusals.specs.Result.{Result, refused, accepted}
+use Rattle.refusals.proofs.Numbers.{numbered}
 use Rattle.string_set.specs.declared.Next.{Next}
 use Rattle.string_set.specs.declared.Next.the-variants.{At, Past}
 use Rattle.string_set.specs.declared.Reading.{Reading}
 use Rattle.string_set.specs.declared.Reading.the-variants.{Refused, Strings}
 use Rattle.string_set.specs.Readers.{Taken, taken, short, many, alone}
-use Rattle.string_set.specs.StringSet.{string, stringSet, readSet, walked, afterString}
-use Rattle.string_set.specs.Places.{readingOf, stringAt, Inside, Placed}
+use Rattle.string_set.specs.StringSet.{string, stringSet, readSet}
+use Rattle.string_set.specs.Places.{readingOf, readingNumber, stringAt, Inside, Placed, walked, afterString}
 use Rattle.string_set.proofs.Readers.{byte-at, byte-end, front-at, front-end, prepend, prepend-none, many-more, many-cut, many-done}
 
 -- the step, by places
 module _ (s : List ℕ) (at : ℕ) where
   pub after-end : length s ≤ at → Past ≡ afterString s at
   unfolding afterString
-  after-end h = rw (le-ltb at (length s) h)
+  after-end h = rw (lt-leb (at + 1 + byteAt s at) (length s) (omega arith))
 
   pub after-past : (n : ℕ) → n ≡ byteAt s at → at < length s → length s < at + 1 + n → Past ≡ afterString s at
   unfolding afterString
-  after-past n e h k = rw (lt-ltb at (length s) h, ← e, lt-leb (at + 1 + n) (length s) k)
+  after-past n e h k = rw (← e, lt-leb (at + 1 + n) (length s) k)
 
   pub after-at : (n : ℕ) → n ≡ byteAt s at → at + 1 + n ≤ length s → At (at + 1 + n) ≡ afterString s at
   unfolding afterString
-  after-at n e k = rw (lt-ltb at (length s) (omega arith), ← e, le-leb (at + 1 + n) (length s) k)
+  after-at n e k = rw (← e, le-leb (at + 1 + n) (length s) k)
 
 -- what its answer says of the string
 abbrev Said : List ℕ → ℕ → Next → Type 0
@@ -46,10 +48,7 @@ Said s at (At end) = (end ≡ at + 1 + byteAt s at) × (at + 1 + byteAt s at ≤
 
 said : (s : List ℕ) (at : ℕ) → Said s at (afterString s at)
 unfolding afterString
-said s at =
-    choice (Said s at) (ltb at (length s)) _ _
-    (λ h. choice (Said s at) (leb (at + 1 + byteAt s at) (length s)) _ _ (λ k. (refl, leb-true _ _ k)) (λ k. leb-false _ _ k))
-    (λ h. omega (arith, ltb-false at (length s) h))
+said s at = choice (Said s at) (leb (at + 1 + byteAt s at) (length s)) _ _ (λ k. (refl, leb-true _ _ k)) (λ k. leb-false _ _ k)
 
 module _ (s : List ℕ) (at : ℕ) (r : Next) (e : r ≡ afterString s at) where
   pub said-past : r ≡ Past → length s < at + 1 + byteAt s at
@@ -114,10 +113,19 @@ module _ (s : List ℕ) (n : ℕ) where
   pub all-read : (l : List (List ℕ)) (at : ℕ) → many string n (drop 1 s) ≡ taken l (drop at s) → length s ≤ at → walked n s ≡ accepted l
   all-read l at e h = rw (e, drop-of-length-le s h)
 
+-- a reading's number
+same-number : (t : Result (List (List ℕ))) → readingNumber (readingOf t) ≡ numberIn t
+same-number (refused r) = refl
+same-number (accepted l) = refl
+
 -- a set's answer
 module _ (s ps : List ℕ) (t : Result (List (List ℕ))) where
   pub refused-said : (g : Reading) (r : Refusal) → g ≡ Refused r → t ≡ refused r → (g ≡ readingOf t) × Placed s t ps
   refused-said g r e k = rw k (e, tt)
+
+  -- and so with its number
+  pub said-numbered : (g : Reading) → (g ≡ readingOf t) × Placed s t ps → (g ≡ readingOf t) × (Placed s t ps × (readingNumber g ≡ numberIn t))
+  said-numbered g e = (e .0, (e .1, numbered readingOf readingNumber same-number g t (e .0) .1))
 
   pub accepted-said : (n k : ℕ) → t ≡ accepted (map (stringAt s) (take k ps)) → k ≤ n → n ≤ k → n < 256 → n ≤ length ps → Inside s ps k
       → (Strings n ≡ readingOf t) × Placed s t ps

@@ -2,8 +2,9 @@
 ghost use mathlib.Core.Path.{_≡_};
 ghost use Prim.Native.Nat.{_≤_, _<_};
 ghost use lib.ListN.{length};
-ghost use Rattle.string_set.specs.StringSet.{readSet, afterString, walked};
-ghost use Rattle.string_set.specs.Places.{readingOf, Placed};
+ghost use Rattle.refusals.specs.Refusals.{numberIn};
+ghost use Rattle.string_set.specs.StringSet.{readSet};
+ghost use Rattle.string_set.specs.Places.{readingOf, readingNumber, Placed, walked, afterString};
 use refusals::Refusal;
 
 // Refused, or how many strings there are.
@@ -88,6 +89,7 @@ fn walk(set: &[u8], n: usize) -> StringSet
 pub fn read(set: &[u8]) -> StringSet
     ensures reading { λ r. ⌜ r .reading ≡ readingOf (readSet (now (set .entry))) ⌝ }
     ensures places { λ r. ⌜ Placed (now (set .entry)) (readSet (now (set .entry))) (r .places) ⌝ }
+    ensures number { λ r. ⌜ readingNumber (r .reading) ≡ numberIn (readSet (now (set .entry))) ⌝ }
 {
     if 65536 < set.len() {
         return refused(Refusal::FileTooLong);

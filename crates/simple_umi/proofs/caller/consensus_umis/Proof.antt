@@ -30,7 +30,7 @@ strings : (c : tie.After-reading2)
     → (readSet (setOf c) ≡ accepted (stringsAt 0 (setOf c) (take (countOf c) (placesOf c)))) × (countOf c ≤ 255) × Trimmed 0 (setOf c) (placesOf c) (countOf c)
 strings c =
     let r = c .before .before .before .read in
-    read-strings (setOf c) (placesOf c) (readSet (setOf c)) (r .result .reading) (r .ensures .0) (r .ensures .1) (countOf c) (c .reading2 .given .1)
+    read-strings (setOf c) (placesOf c) (readSet (setOf c)) (r .result .reading) (r .ensures .0) (r .ensures .1 .0) (countOf c) (c .reading2 .given .1)
 
 read-requires : tie.Need-read-requires
 read-requires c κs = search needs
@@ -54,7 +54,7 @@ returns c =
     let g = c .before in
     let r = g .before .before .before .read in
     let s = g .before .before .before .before .before .before .args in
-    let t = read-refused (s .set .now) (r .result .places) (readSet (s .set .now)) (r .result .reading) (r .ensures .0) (r .ensures .1) _ (g .reading .given .1) in
+    let t = read-refused (s .set .now) (r .result .places) (readSet (s .set .now)) (r .result .reading) (r .ensures .0) (r .ensures .1 .0) _ (g .reading .given .1) in
     let e = sym (umis-in-refused (s .set .now) (s .out .now) _ t) in
     (ap answerOf e, (ap (bufferAfter (s .out .now)) e, (omega arith, numbered _ (consensusUmisIn (s .set .now) (s .out .now)) (ap answerOf e))))
 

@@ -29,7 +29,7 @@ duplex-group-requires c κs =
     let r = c .before .before .before .before .before .read in
     let s = c .before .before .before .before .before .before .before .before .before .args .set .now in
     let g = c .before .before .reading2 .given in
-    let t = read-strings s (r .result .places) (readSet s) (r .result .reading) (r .ensures .0) (r .ensures .1) (g .0 .0) (g .1) in
+    let t = read-strings s (r .result .places) (readSet s) (r .result .reading) (r .ensures .0) (r .ensures .1 .0) (g .0 .0) (g .1) in
     (t .1, t .2)
 
 put-requires : tie.Need-put-requires
@@ -53,7 +53,7 @@ returns c =
     let a = c .before .before .before .before .before .before .before .before .before .args in
     let s = a .set .now in
     let g = c .before .before .reading .given in
-    let t = read-refused s (r .result .places) (readSet s) (r .result .reading) (r .ensures .0) (r .ensures .1) (g .0 .0) (g .1) in
+    let t = read-refused s (r .result .places) (readSet s) (r .result .reading) (r .ensures .0) (r .ensures .1 .0) (g .0 .0) (g .1) in
     ended-also
     (duplex-unread (a .self .caller) s (a .out .now) _ _ (g .0 .0) t (c .duplex-refused .ensures .1) (c .duplex-refused .ensures .0))
     (duplex-refused-short (c .duplex-refused .result .answer) _ (c .duplex-refused .ensures .1)) (duplex-numbered _ (duplexIn (a .self .caller) s (a .out .now)))
@@ -70,7 +70,7 @@ returns-2 c =
     let a = m .before .before .before .before .before .before .before .args in
     let s = a .set .now in
     let g = m .reading2 .given in
-    let t = read-strings s (r .result .places) (readSet s) (r .result .reading) (r .ensures .0) (r .ensures .1) (g .0 .0) (g .1) in
+    let t = read-strings s (r .result .places) (readSet s) (r .result .reading) (r .ensures .0) (r .ensures .1 .0) (g .0 .0) (g .1) in
     let e = c .before .before .r .given in
     ended-also
     (duplex-not-put (a .self .caller) s (a .out .now) _ _ _ (t .0) (p .result) (p .ensures .0) _ (w .put .result) (w .put .ensures .0) (w .put .ensures .1)
@@ -89,7 +89,7 @@ returns-3 c =
     let a = m .before .before .before .before .before .before .before .args in
     let s = a .set .now in
     let g = m .reading2 .given in
-    let t = read-strings s (r .result .places) (readSet s) (r .result .reading) (r .ensures .0) (r .ensures .1) (g .0 .0) (g .1) in
+    let t = read-strings s (r .result .places) (readSet s) (r .result .reading) (r .ensures .0) (r .ensures .1 .0) (g .0 .0) (g .1) in
     let text = p .result .group .text in
     let bytes : length text ≡ 255 = sym (length-map text (λ x. x)) ∙ p .ok .1 .1 .0 .1 .1 .1 .0 .1 .0 .1 in
     ended-also
