@@ -195,10 +195,6 @@ pub named-stands : (rule : TieRule) (xs : List Float) → uniqueMaxIndexWith xs 
 named-stands FgbioCompat xs h = fgbio-named xs h
 named-stands UlpRelative xs h = ulp-named xs h .1
 
--- under UlpRelative it is finite
-pub ulp-finite : (xs : List Float) → uniqueMaxIndexWith xs UlpRelative < 4 → finite (lane xs (uniqueMaxIndexWith xs UlpRelative)) ≡ true
-ulp-finite xs h = ulp-named xs h .0
-
 -- ---- the multibase shortcut
 
 -- tests that pass wherever the first does, left out

@@ -6,6 +6,7 @@ ghost use Rattle.lent_bytes.specs.Lists.{byteAt};
 ghost use Rattle.refusals.specs.Refusals.{numberIn};
 ghost use Rattle.column_file.specs.Reading.{settingsOf, readSettings};
 ghost use Rattle.column_file.specs.Places.{headOf, settledOf, settingsReadingOf, settingsNumber, wordAt};
+use lent_bytes::wide;
 use phred::PhredScore;
 use refusals::Refusal;
 use tie_rules::TieRule;
@@ -33,13 +34,6 @@ pub enum Head {
 pub enum Settled {
     Refused(Refusal),
     Accepted(Settings),
-}
-
-pub(crate) fn wide(x: u8) -> usize
-    ensures { λ r. ⌜ r ≡ x ⌝ }
-    ensures { λ r. ⌜ r < 256 ⌝ }
-{
-    x as usize
 }
 
 // The two-byte count at a place, low byte first.

@@ -365,14 +365,3 @@ not-nan-add x (inf t) f h = absurd f
 not-nan-add nan (fin t n d) f h = h
 not-nan-add (inf s) (fin t n d) f h = refl
 not-nan-add (fin s m e) (fin t n d) f h = sum-number binary64 s (m * up e * down d) t (n * up d * down e) (down e * down d)
-
--- a number times a finite one that is not 0 is a number
-pub not-nan-mul : (x c : Float) → T (finite c) → eq c nought ≡ false → isNan x ≡ false → isNan (x ⊗ c) ≡ false
-unfolding mul isNan eq ofBits
-not-nan-mul x nan f z h = absurd f
-not-nan-mul x (inf t) f z h = absurd f
-not-nan-mul nan (fin t n d) f z h = h
-not-nan-mul (inf s) (fin true zero d) f z h = absurd (true≢false (simp zero-mul at z))
-not-nan-mul (inf s) (fin false zero d) f z h = absurd (true≢false (simp zero-mul at z))
-not-nan-mul (inf s) (fin t (suc n) d) f z h = rw (eqb·suc-zero n)
-not-nan-mul (fin s m e) (fin t n d) f z h = round-number binary64 (unlike s t) (m * up e * (n * up d)) (down e * down d)

@@ -155,18 +155,6 @@ add-not-minus-infinity (inf true) z f g h = absurd (true≢false g)
 add-not-minus-infinity (inf false) z f g h = lowest (inf false ⊕ z) (inf false) refl (add-not-below (inf false) z f h)
 add-not-minus-infinity (fin s m e) z f g h = lowest (fin s m e ⊕ z) (fin s m e) refl (add-not-below (fin s m e) z f h)
 
--- of a finite f64 and what is from 0 on: it is from the first on, and a number
-pub add-from-above : (x z : Float) → T (fits binary64 x) → T (finite x) → le nought z ≡ true → le x (x ⊕ z) ≡ true
-unfolding add isNan
-add-from-above nan z f g h = absurd g
-add-from-above (inf s) z f g h = absurd g
-add-from-above (fin s m e) z f g h = not-lt-le (fin s m e ⊕ z) (fin s m e) (number z (le-numbers nought z h .1)) refl (add-not-below (fin s m e) z f (le-not-lt nought z h))
-  where
-    number : (z : Float) → isNan z ≡ false → isNan (fin s m e ⊕ z) ≡ false
-    number nan p = p
-    number (inf t) p = refl
-    number (fin t n d) p = not-nan-add (fin s m e) (fin t n d) tt refl
-
 -- ---- the difference of equals
 -- +0 or -0
 abbrev Zero : Float → Type 0

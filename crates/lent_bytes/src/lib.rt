@@ -1,12 +1,20 @@
 // Bytes compared, and bytes put at the front of a lent buffer.
 ghost use mathlib.Core.Path.{_≡_};
 ghost use mathlib.Core.List.{_++_};
-ghost use Prim.Native.Nat.{_+_, _≤_};
+ghost use Prim.Native.Nat.{_+_, _≤_, _<_};
 ghost use lib.Dec.{leb};
 ghost use lib.ListN.{length};
 ghost use lib.Seq.{sets};
 ghost use Rattle.lent_bytes.specs.Lists.{sameBytes};
 ghost use Rattle.lent_bytes.specs.Buffer.{written};
+
+// A byte as a number of the size of places.
+pub fn wide(x: u8) -> usize
+    ensures { λ r. ⌜ r ≡ x ⌝ }
+    ensures { λ r. ⌜ r < 256 ⌝ }
+{
+    x as usize
+}
 
 // Whether two are the same, byte by byte.
 pub fn same_bytes(a: &[u8], b: &[u8]) -> bool

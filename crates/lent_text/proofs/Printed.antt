@@ -49,10 +49,6 @@ print-none o a h k = record { room = h; place = omega arith; bytes = refl }
 pub printed-length : {o o1 t : List ℕ} {a w1 : ℕ} → Printed o a t o1 w1 → length o1 ≡ length o
 printed-length {o} {o1} {t} {a} {w1} p = ap length (p .bytes) ∙ length-sets o a t
 
--- the next place, where the count has not stopped
-pub printed-place : {o o1 t : List ℕ} {a w1 : ℕ} → Printed o a t o1 w1 → a + length t < lastPlace → w1 ≡ a + length t
-printed-place {o} {o1} {t} {a} {w1} p h = let e = p .place in omega arith
-
 -- the same text in other words
 pub printed-as : {o o1 t u : List ℕ} {a w1 : ℕ} → Printed o a t o1 w1 → t ≡ u → Printed o a u o1 w1
 printed-as {o} {o1} {t} {u} {a} {w1} p e = rw e at p

@@ -12,7 +12,7 @@ use crate::caller::SimpleConsensusCaller;
 use crate::caller::with_builder;
 use crate::group::Group;
 use crate::group::consensus_group;
-use crate::group::wide;
+use lent_bytes::wide;
 use refusals::Verdict;
 
 // The places of a strand's strings.

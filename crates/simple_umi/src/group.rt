@@ -14,6 +14,7 @@ use crate::family::any_high;
 use crate::family::call_columns;
 use crate::family::columns_verdict;
 use base_builder::ConsensusBaseBuilder;
+use lent_bytes::wide;
 use refusals::Refusal;
 use refusals::Verdict;
 
@@ -24,13 +25,6 @@ pub struct Group {
     pub length: usize,
     pub had_errors: bool,
     pub builder: ConsensusBaseBuilder,
-}
-
-pub(crate) fn wide(x: u8) -> usize
-    ensures { λ r. ⌜ r ≡ x ⌝ }
-    ensures { λ r. ⌜ r < 256 ⌝ }
-{
-    x as usize
 }
 
 // n bytes of a set, from a place on.

@@ -5,6 +5,7 @@ ghost use lib.ListN.{length};
 ghost use Rattle.refusals.specs.Refusals.{numberIn};
 ghost use Rattle.string_set.specs.StringSet.{readSet};
 ghost use Rattle.string_set.specs.Places.{readingOf, readingNumber, Placed, walked, afterString};
+use lent_bytes::wide;
 use refusals::Refusal;
 
 // Refused, or how many strings there are.
@@ -24,13 +25,6 @@ pub struct StringSet {
 enum Next {
     At(usize),
     Past,
-}
-
-fn wide(x: u8) -> usize
-    ensures { λ r. ⌜ r ≡ x ⌝ }
-    ensures { λ r. ⌜ r < 256 ⌝ }
-{
-    x as usize
 }
 
 fn refused(refusal: Refusal) -> StringSet

@@ -16,20 +16,6 @@ use Rattle.unanimous_shortcut.specs.Search.{entry, advanced, searched, p
 
 -- ---- any table
 module _ (ts : List Float) (gap : Float) where
-  advanced-held : (p s : ℕ) → p ≤ 94 → advanced ts gap p s ≤ 94
-  unfolding advanced
-  advanced-held p s h =
-      choice (λ (n : ℕ). n ≤ 94) (leb (p + s) 94 && le (entry ts (p + s - 1)) gap) (p + s) p (λ t. leb-true (p + s) 94 (both _ _ t .0)) (λ t. h)
-
-  searched-held : (p : ℕ) (ss : List ℕ) → p ≤ 94 → searched ts gap p ss ≤ 94
-  unfolding searched
-  searched-held p [] h = h
-  searched-held p (s ∷ ss) h = searched-held (advanced ts gap p s) ss (advanced-held p s h)
-
-  pub point-held : partitionPoint ts gap ≤ 94
-  unfolding partitionPoint
-  point-held = searched-held 0 _ (omega arith)
-
   -- of n entries at most n are at or below the gap
   count-most : (n : ℕ) → atOrBelow ts gap n ≤ n
   unfolding atOrBelow
