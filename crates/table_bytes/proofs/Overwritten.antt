@@ -7,11 +7,12 @@ use native.Mathlib.Nat.{ne-of-lt, eq-or-lt-of-le}
 use native.Mathlib.Omega.{arith}
 use mathlib.Core.Bool.{Bool, true, false}
 use lib.Dec.{ltb}
-use borrow.Author.Tests.{ltb-true, ltb-false}
+use borrow.Author.Tests.{ltb-true, ltb-false, le-leb, lt-leb}
 use lib.ListN.{length, getD, set, drop, length-append, length-drop, length-set, List·getD-append}
 use lib.Seq.{getD-set-same, getD-set-other, getD-append-add, getD-drop, ext-getD}
 use Rattle.rate_tables.specs.Tables.{listed}
 use Rattle.rate_tables.proofs.Filled.{listed-length, level-at}
+use Rattle.lent_bytes.specs.Buffer.{replied, written}
 use Rattle.table_bytes.specs.Tables.{overwritten}
 
 module _ (f : ℕ → ℕ) (n : ℕ) (out : List ℕ) where
@@ -58,3 +59,13 @@ over-more f k out v h e =
 
     high : (j : ℕ) → k < j → getD (set (overwritten f k out) k v) j 0 ≡ getD (overwritten f (k + 1) out) j 0
     high j l = getD-set-other (overwritten f k out) k j v 0 (λ s. absurd (omega arith)) ∙ over-high f k out j (omega arith) ∙ sym (over-high f (k + 1) out j (omega arith))
+
+-- all of them, as bytes that fit; and bytes that do not
+module _ (f : ℕ → ℕ) (n : ℕ) (out : List ℕ) where
+  pub over-written : n ≤ length out → (n ≡ replied (listed f 0 n) out) × (overwritten f n out ≡ written (listed f 0 n) out)
+  unfolding overwritten replied written
+  over-written h = rw (listed-length f 0 n, le-leb n (length out) h) (refl, refl)
+
+  pub over-short : length out < n → (0 ≡ replied (listed f 0 n) out) × (out ≡ written (listed f 0 n) out)
+  unfolding replied written
+  over-short h = rw (listed-length f 0 n, lt-leb n (length out) h) (refl, refl)

@@ -37,18 +37,10 @@ tableByte pre post =
     let g = gapTables pre in
     numberByte (a .correct) (a .«error_per_alt») (g .thresholds) (g .«cerr_min») (g .cap)
 
--- the first n bytes of a buffer by a rule, the others as they were
+-- all 3,016 of them
+unfoldable pub tableBytes : ℕ → ℕ → List ℕ
+tableBytes pre post = listed (tableByte pre post) 0 3016
+
+-- the first n bytes of a buffer by a rule, the others as they were: what the code's loop has done
 unfoldable pub overwritten : (ℕ → ℕ) → ℕ → List ℕ → List ℕ
 overwritten f n out = listed f 0 n ++ drop n out
-
--- what the buffer holds afterwards: the bytes, or what it held where it is too short
-unfoldable pub writtenOf : ℕ → ℕ → List ℕ → List ℕ
-writtenOf pre post out =
-    if leb 3016 (length out) then overwritten (tableByte pre post) 3016 out
-    else out
-
--- how many bytes were written
-unfoldable pub repliedOf : ℕ → ℕ
-repliedOf room =
-    if leb 3016 room then 3016
-    else 0

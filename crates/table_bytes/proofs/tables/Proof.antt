@@ -1,20 +1,31 @@
 -- `tables`: what `write` leaves, with the tables that the two functions gave. Assumes nothing.
-use lib.ListN.{length}
-use borrow.Author.Tests.{lt-leb, le-leb}
+use mathlib.Core.Path.{_≡_, _∙_}
+use mathlib.Core.List.{List}
+use Prim.Native.Nat.{ℕ, _≤_}
 use native.Mathlib.Omega.{arith}
-use Rattle.table_bytes.specs.Tables.{repliedOf, writtenOf}
 use borrow.Author.Needs.{needs}
+use lib.ListN.{length}
+use Rattle.rate_tables.specs.declared.adjusted.AdjustedProbabilityTables.{AdjustedProbabilityTables}
+use Rattle.rate_tables.specs.Adjusted.{adjustedTables}
+use Rattle.gap_tables.specs.declared.gaps.UnanimousGapTables.{UnanimousGapTables}
+use Rattle.gap_tables.specs.Gaps.{gapTables}
+use Rattle.lent_bytes.specs.Buffer.{replied, written}
+use Rattle.table_bytes.specs.Tables.{numberByte, tableByte, tableBytes, overwritten}
+use Rattle.table_bytes.proofs.Overwritten.{over-written, over-short}
 use Rattle.table_bytes.proofs.tables.Statement.{statement}
 use Rattle.table_bytes.proofs.tables.Tie as tie
-use Rattle.table_bytes.proofs.tables.Reads as reads
-use Rattle.table_bytes.proofs.tables.Lts as lts
-use Rattle.table_bytes.proofs.write.Reads as write-reads
-use Rattle.rate_tables.proofs.adjusted.AdjustedProbabilityTables.compute.Reads as compute-reads
-use Rattle.gap_tables.proofs.build_unanimous_gap_tables.Reads as build-unanimous-gap-tables-reads
+
+-- what is left of a buffer, by the tables that were built
+all-written : (pre post : ℕ) (a : AdjustedProbabilityTables) (g : UnanimousGapTables) (out after : List ℕ)
+    → a ≡ adjustedTables post → g ≡ gapTables pre → 3016 ≤ length out
+    → after ≡ overwritten (numberByte (a .correct) (a .«error_per_alt») (g .thresholds) (g .«cerr_min») (g .cap)) 3016 out
+    → (3016 ≡ replied (tableBytes pre post) out) × (after ≡ written (tableBytes pre post) out)
+unfolding tableBytes
+all-written pre post a g out after e k h w = let o = over-written (tableByte pre post) 3016 out h in (o .0, rw (e, k) at w ∙ o .1)
 
 returns : tie.Need-returns
-unfolding repliedOf writtenOf
-returns c = (rw (lt-leb _ _ (c .if1 .taken)), rw (lt-leb _ _ (c .if1 .taken)))
+unfolding tableBytes
+returns c = let a = c .before .before .args in over-short (tableByte (a .pre .0) (a .post .0)) 3016 (a .out .now) (c .if1 .taken)
 
 compute-requires : tie.Need-compute-requires
 compute-requires c κs = search needs
@@ -29,8 +40,10 @@ same-length : tie.Need-same-length
 same-length c = search needs
 
 returns-2 : tie.Need-returns-2
-unfolding repliedOf writtenOf
-returns-2 c = (rw (le-leb 3016 (length (c .before .before .before .before .before .before .before .before .before .before .before .before .before .before .before .before .args .out .now)) (omega arith)), rw (le-leb 3016 (length (c .before .before .before .before .before .before .before .before .before .before .before .before .before .before .before .before .args .out .now)) (omega arith), ← c .before .before .before .before .before .before .before .before .before .before .before .before .before .compute .ensures, ← c .before .before .before .before .before .before .before .before .before .before .before .before .build-unanimous-gap-tables .ensures) (c .before .before .write .ensures))
+returns-2 c =
+    let a = c .before .before .before .before .before .before .before .before .before .before .before .before .before .before .before .before .args in
+    all-written (a .pre .0) (a .post .0) _ _ (a .out .now) _ (c .before .before .before .before .before .before .before .before .before .before .before .before .before .compute .ensures)
+    (c .before .before .before .before .before .before .before .before .before .before .before .before .build-unanimous-gap-tables .ensures) (omega arith) (c .before .before .write .ensures)
 
 pub tables-spec : {M : Type 1} → statement M
 tables-spec =
