@@ -2,9 +2,10 @@
 //!
 //! Both sides start from the bytes of the file. Ours builds the tables of the file's rates in each
 //! call, so where they are included the Rust builds them anew for each listing, too; the ones in its
-//! caches, which the builder then works with, are the same. Where they are apart, both build them
-//! once and call every column many times, and what one round takes is taken away. The Rust's UMI
-//! caller is made before the clock starts and keeps its tables: ours needs none for the strings.
+//! caches, which the builder then works with, are the same. Where they are apart, what a file of the
+//! same settings with no columns and no strings takes is taken away; of the calls alone, which both
+//! make many times with tables that are built once, what one round takes. The Rust's UMI caller is
+//! made before the clock starts and keeps its tables: ours needs none for the strings.
 
 use std::hint::black_box;
 
@@ -35,30 +36,35 @@ const SETTINGS: Settings = Settings { pre: 45, post: 40, rule: 0 };
 /// What is measured of a file.
 const MEASURE: &str = "a file";
 
-/// A line of a large file to text, one of its calls alone, and one of a small file to text. Says
-/// where the answers differ.
+/// Lines of a large file to text, with its tables and without, one of its calls alone, and one of a
+/// small file to text. Says where the answers differ.
 pub fn lines(seed: u64) -> Result<Vec<Line>, String> {
     let large = usual::filling(SETTINGS, LONGEST, &mut Random::new(seed)).bytes();
     let columns =
         read(&large).map_err(|number| format!("a file refused by {number}"))?.columns.len();
     let name = |tables| format!("64 KB, {columns} columns, tables {tables}");
+    let small = format!("{} bytes, tables included", SAMPLE.len());
+    let Settings { pre, post, rule } = SETTINGS;
+    let (whole, nothing) = (to_text(&large)?, to_text(&[3, pre, post, rule, 0, 0, 0])?);
+    let apart = [0, 1].map(|side| whole[side] - nothing[side]);
     Ok(vec![
-        to_text(name("included"), &large)?,
+        line("listing", name("included"), whole),
+        line("listing", name("apart"), apart),
         calls(name("apart"), &large)?,
-        to_text(format!("{} bytes, tables included", SAMPLE.len()), &SAMPLE)?,
+        line("listing", small, to_text(&SAMPLE)?),
     ])
 }
 
-/// The fastest run of each side, the sides taking turns. Both write into a buffer that they are lent
+/// The fastest run of each side in seconds, the sides taking turns. Both write into a buffer that they are lent
 /// again and again; ours has room for the longest text that so many columns can have.
-fn to_text(arguments: String, file: &[u8]) -> Result<Line, String> {
+fn to_text(file: &[u8]) -> Result<[f64; 2], String> {
     let mut caller = SimpleUmiConsensusCaller::new();
     let mut text = Vec::new();
     list(file, &mut caller, &mut text);
     let mut out = vec![0; 1_000 + 5 * text.len()];
     let written = exports::list(file, &mut out);
     if out.get(..written as usize) != Some(&text[..]) {
-        return Err(format!("a listing, {arguments}: the texts differ"));
+        return Err(format!("a listing of {} bytes: the texts differ", file.len()));
     }
     let mut best = [f64::INFINITY; 2];
     for _ in 0..ROUNDS {
@@ -66,7 +72,7 @@ fn to_text(arguments: String, file: &[u8]) -> Result<Line, String> {
         best[1] = best[1].min(seconds(|| exports::list(black_box(file), &mut out)));
         black_box((&text, &out));
     }
-    Ok(line("listing", arguments, best))
+    Ok(best)
 }
 
 /// The listing as one would write it in Rust, with the tables of the rates built anew: a builder that
