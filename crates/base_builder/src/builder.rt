@@ -130,7 +130,8 @@ fn cleared(rule: TieRule, pre: LogProbability) -> ConsensusBaseBuilder
     }
 }
 
-fn total(observations: [u32; 4]) -> u64
+// All counts together.
+pub fn total(observations: [u32; 4]) -> u64
     ensures { λ r. ⌜ r ≡ totalOf observations ⌝ }
 {
     wide(observations[0]) + wide(observations[1]) + wide(observations[2]) + wide(observations[3])
@@ -192,7 +193,7 @@ pub fn add_entry(
 }
 
 // Qualities above 93 use entry 93.
-fn entry(qual: PhredScore) -> usize
+pub fn entry(qual: PhredScore) -> usize
     ensures { λ r. ⌜ r ≡ entryOf (qual .0) ⌝ }
 {
     let q = qual.0;

@@ -17,7 +17,7 @@ use Rattle.rate_tables.specs.declared.adjusted.AdjustedProbabilityTables.{Adjus
 use Rattle.rate_tables.specs.Adjusted.{adjustedTables}
 use Rattle.tie_rules.specs.declared.tie_rule.TieRule.{TieRule}
 use Rattle.tie_rules.specs.Lanes.{lane, noLane, laneOfByte, counted}
-use Rattle.tie_rules.proofs.Lanes.{lanes-at}
+use Rattle.tie_rules.proofs.Lanes.{lanes-at, lane-of-byte}
 use Rattle.base_builder.specs.declared.builder.ConsensusBaseBuilder.{ConsensusBaseBuilder}
 use Rattle.base_builder.specs.Observation.{countOf}
 use Rattle.base_builder.specs.Builder.{total, cleared, newAt, withRule, resetOf, sumOf, movedLane, observed, entryOf, isFull, addedBy, added}
@@ -88,18 +88,6 @@ module _ (t : AdjustedProbabilityTables) (os : List Observation) (b : ConsensusB
         all = one-in-all k q os h (had .all);
         most = omega arith;
       }
-
--- a byte that has a lane has one of the four
-first-of : (a b c d : Bool) → (if a then 0 else if b then 1 else if c then 2 else if d then 3 else 4) ≤ 4
-first-of true b c d = omega arith
-first-of false true c d = omega arith
-first-of false false true d = omega arith
-first-of false false false true = omega arith
-first-of false false false false = omega arith
-
-lane-of-byte : (x : ℕ) → laneOfByte x ≤ 4
-unfolding laneOfByte
-lane-of-byte x = first-of (eqb x 65 || eqb x 97) (eqb x 67 || eqb x 99) (eqb x 71 || eqb x 103) (eqb x 84 || eqb x 116)
 
 -- neither of two
 neither : (a b : Bool) → (a || b) ≡ false → (a ≡ false) × (b ≡ false)

@@ -1,4 +1,4 @@
-pub mod Pairs
+pub mod Bytes
 pub mod Walk
 pub mod Amounts
 pub mod Tables

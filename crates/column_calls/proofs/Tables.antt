@@ -1,24 +1,34 @@
--- With the tables of a file's rates and a new builder at its settings, the given tables and builder say what the file's settings say. Assumes nothing.
-use mathlib.Core.Path.{_≡_, refl}
-use mathlib.Core.List.{List, [], _∷_}
+-- With the windows and tables of a file's rates and a new builder at its settings, what is given says what the file's settings say. Assumes nothing.
+use mathlib.Core.Path.{_≡_, refl, fun-ext}
+use mathlib.Core.List.{List, [], _∷_, map}
+use Rattle.rate_tables.specs.declared.adjusted.AdjustedProbabilityTables.{AdjustedProbabilityTables}
 use Rattle.rate_tables.specs.Adjusted.{adjustedTables}
 use Rattle.gap_tables.specs.Gaps.{gapTables}
-use Rattle.base_builder_history.specs.History.{after}
+use Rattle.base_builder.specs.declared.builder.ConsensusBaseBuilder.{ConsensusBaseBuilder}
+use Rattle.base_builder_history.specs.History.{step, run, after}
+use Rattle.observation_windows.specs.Windows.{windowsOf, allAdded}
+use Rattle.observation_windows.proofs.Laws.{added-same}
 use Rattle.column_file.specs.declared.settings.Settings.{Settings}
 use Rattle.column_file.specs.Format.{Observation}
-use Rattle.column_calls.specs.Columns.{startOf, builderOf, columnCall}
+use Rattle.column_calls.specs.Columns.{eventOf, startOf, builderOf, columnCall}
 use Rattle.column_calls.specs.Times.{amounts}
-use Rattle.column_calls.specs.Tables.{builderWith, amountsWith}
+use Rattle.column_calls.specs.Tables.{bytesOf, builderWith, amountsWith}
+
+-- by the windows of any two tables, observations do what they do as a list of a builder's calls
+pub windows-run : (t : AdjustedProbabilityTables) (b : ConsensusBaseBuilder) (c : List Observation)
+    → builderWith (windowsOf (t .correct) (t .«error_per_alt»)) b c ≡ run t (map eventOf c) b
+unfolding bytesOf allAdded run step
+windows-run t b [] = refl
+windows-run t b (o ∷ c) = rw (added-same (t .correct) (t .«error_per_alt») (o .base) (o .quality) b) (windows-run t _ c)
 
 module _ (g : Settings) where
-  -- the builder of a column
-  pub builder-with : (c : List Observation) → builderWith (adjustedTables (g .«error_rate_post_umi» .0)) (startOf g) c ≡ builderOf g c
+  -- the builder of each column
+  pub builders-with : let t = adjustedTables (g .«error_rate_post_umi» .0) in builderWith (windowsOf (t .correct) (t .«error_per_alt»)) (startOf g) ≡ builderOf g
   unfolding builderOf after
-  builder-with c = refl
+  builders-with = fun-ext (windows-run (adjustedTables (g .«error_rate_post_umi» .0)) (startOf g))
 
   -- what the calls of columns add up to
-  pub amounts-with : (cs : List (List Observation))
-      → amountsWith (adjustedTables (g .«error_rate_post_umi» .0)) (gapTables (g .«error_rate_pre_umi» .0)) (startOf g) cs ≡ amounts g cs
+  pub amounts-with : (cs : List (List Observation)) → amountsWith (builderOf g) (gapTables (g .«error_rate_pre_umi» .0)) cs ≡ amounts g cs
   unfolding amountsWith amounts columnCall
   amounts-with [] = refl
-  amounts-with (c ∷ cs) = rw (builder-with c, amounts-with cs)
+  amounts-with (c ∷ cs) = rw (amounts-with cs)

@@ -1,6 +1,5 @@
 -- The builder of a column of a file, and its call. Definitions only.
-use Prim.Native.Nat.{ℕ}
-use mathlib.Core.List.{List, [], _∷_, map}
+use mathlib.Core.List.{List, map}
 use Rattle.gap_tables.specs.Gaps.{gapTables}
 use Rattle.lane_calls.specs.declared.call.Call.{Call}
 use Rattle.base_builder.specs.declared.builder.ConsensusBaseBuilder.{ConsensusBaseBuilder}
@@ -9,12 +8,6 @@ use Rattle.base_builder.specs.Calls.{callOf}
 use Rattle.base_builder_history.specs.History.{Event, add, after}
 use Rattle.column_file.specs.declared.settings.Settings.{Settings}
 use Rattle.column_file.specs.Format.{Observation}
-
--- bytes two by two, base and quality; a byte left over is no observation
-unfoldable pub pairs : List ℕ → List Observation
-pairs [] = []
-pairs (b ∷ []) = []
-pairs (b ∷ q ∷ r) = record { base = b; quality = q } ∷ pairs r
 
 -- an observation as what happens to a builder
 abbrev pub eventOf : Observation → Event

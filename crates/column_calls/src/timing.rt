@@ -1,12 +1,10 @@
 // The columns of a file called many times, for timing.
 ghost use mathlib.Core.Path.{_≡_};
-ghost use Prim.Native.Nat.{_+_, _*_, _%_, _^_, _<_, _≤_};
-ghost use Rattle.rate_tables.specs.Adjusted.{adjustedOf};
+ghost use Prim.Native.Nat.{_+_, _*_, _%_, _^_, _<_};
 ghost use Rattle.unanimous_shortcut.specs.Unanimous.{tablesOf};
 ghost use Rattle.column_file.specs.Places.{columnsAt};
 ghost use Rattle.column_calls.specs.Times.{amountOf, amounts, callsOf};
-ghost use Rattle.column_calls.specs.Tables.{amountsWith};
-use crate::columns::add_observations;
+ghost use Rattle.column_calls.specs.Tables.{builderWith, amountsWith};
 use crate::columns::start;
 use base_builder::ConsensusBaseBuilder;
 use base_builder::call_with;
@@ -15,6 +13,8 @@ use column_file::Places;
 use column_file::Reading;
 use column_file::column_at;
 use lane_calls::Call;
+use observation_windows::add_observations;
+use observation_windows::windows;
 use rate_tables::AdjustedProbabilityTables;
 
 fn wide(n: u8) -> u64
@@ -39,13 +39,12 @@ fn add_round(
     from: usize,
     count: usize,
     start: ConsensusBaseBuilder,
-    correct: &[f64; 94],
-    error_per_alt: &[f64; 94],
+    rows: &[f64; 752],
     thresholds: &[f64; 94],
     cerr_min: &[f64; 94],
     cap: usize,
 ) -> u64
-    ensures { λ r. ⌜ r ≡ (sum + amountsWith (adjustedOf (now (correct .entry)) (now («error_per_alt» .entry))) (tablesOf (now (thresholds .entry)) (now («cerr_min» .entry)) cap) start (columnsAt (now (file .entry)) from count)) % 2 ^ 64 ⌝ }
+    ensures { λ r. ⌜ r ≡ (sum + amountsWith (builderWith (now (rows .entry)) start) (tablesOf (now (thresholds .entry)) (now («cerr_min» .entry)) cap) (columnsAt (now (file .entry)) from count)) % 2 ^ 64 ⌝ }
 {
     let mut total = sum;
     let mut place = from;
@@ -56,7 +55,7 @@ fn add_round(
             return total;
         };
         let end = first + 2 * n;
-        let builder = add_observations(start, &file[first..end], correct, error_per_alt);
+        let builder = add_observations(start, &file[first..end], rows);
         let more = amount(call_with(builder, thresholds, cerr_min, cap));
         total = std::num::wrapping_add_u64(total, more);
         place = end;
@@ -71,13 +70,12 @@ fn add_rounds(
     from: usize,
     count: usize,
     start: ConsensusBaseBuilder,
-    correct: &[f64; 94],
-    error_per_alt: &[f64; 94],
+    rows: &[f64; 752],
     thresholds: &[f64; 94],
     cerr_min: &[f64; 94],
     cap: usize,
 ) -> u64
-    ensures { λ r. ⌜ r ≡ times * amountsWith (adjustedOf (now (correct .entry)) (now («error_per_alt» .entry))) (tablesOf (now (thresholds .entry)) (now («cerr_min» .entry)) cap) start (columnsAt (now (file .entry)) from count) % 2 ^ 64 ⌝ }
+    ensures { λ r. ⌜ r ≡ times * amountsWith (builderWith (now (rows .entry)) start) (tablesOf (now (thresholds .entry)) (now («cerr_min» .entry)) cap) (columnsAt (now (file .entry)) from count) % 2 ^ 64 ⌝ }
 {
     let mut sum = 0;
     let mut n = 0;
@@ -88,8 +86,7 @@ fn add_rounds(
             from,
             count,
             start,
-            correct,
-            error_per_alt,
+            rows,
             thresholds,
             cerr_min,
             cap,
@@ -109,6 +106,7 @@ fn times_accepted(file: &[u8], places: Places, times: u32) -> u64
     let gaps = gap_tables::build_unanimous_gap_tables(pre);
     let correct = adjusted.correct;
     let error = adjusted.error_per_alt;
+    let rows = windows(&correct, &error);
     let thresholds = gaps.thresholds;
     let cerr_min = gaps.cerr_min;
     add_rounds(
@@ -117,8 +115,7 @@ fn times_accepted(file: &[u8], places: Places, times: u32) -> u64
         places.columns,
         places.count,
         start(settings),
-        &correct,
-        &error,
+        &rows,
         &thresholds,
         &cerr_min,
         gaps.cap,

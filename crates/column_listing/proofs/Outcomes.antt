@@ -1,13 +1,14 @@
 -- What the functions reply and leave in the buffer, by what the caller answers and by what is listed. Assumes nothing.
 use mathlib.Core.Path.{_≡_, refl, sym, _∙_, ap, subst}
 use mathlib.Core.Bool.{Bool, true, false, not}
-use mathlib.Core.List.{List, [], _∷_, _++_}
+use mathlib.Core.List.{List}
 use Prim.Native.Nat.{ℕ, _≤_}
 use native.Mathlib.Omega.{arith}
 use borrow.Author.Tests.{not-true, not-false, le-leb, le-ltb, lt-ltb, leb-true, leb-false, ltb-true}
 use lib.Dec.{leb, ltb}
 use lib.ListN.{length, take, drop}
 use lib.Seq.{take-append-seam}
+use lib.Ieee.{Float}
 use Rattle.float.proofs.Cases.{test, choice}
 use Rattle.lent_bytes.specs.Buffer.{replied, written}
 use Rattle.lent_bytes.proofs.Buffer.{short-written}
@@ -22,6 +23,7 @@ use Rattle.gap_tables.specs.declared.gaps.UnanimousGapTables.{UnanimousGapTable
 use Rattle.rate_tables.specs.Adjusted.{adjustedTables}
 use Rattle.gap_tables.specs.Gaps.{gapTables}
 use Rattle.base_builder.specs.declared.builder.ConsensusBaseBuilder.{ConsensusBaseBuilder}
+use Rattle.observation_windows.specs.Windows.{windowsOf}
 use Rattle.string_set.specs.StringSet.{readSet}
 use Rattle.simple_umi.specs.declared.answers.FlaggedAnswer.{FlaggedAnswer}
 use Rattle.simple_umi.specs.declared.answers.FlaggedAnswer.the-variants as answer
@@ -32,6 +34,8 @@ use Rattle.column_file.specs.declared.file.Places.{Places}
 use Rattle.column_file.specs.Reading.{readFile}
 use Rattle.column_file.specs.Places.{columnsAt}
 use Rattle.column_calls.specs.Columns.{startOf}
+use Rattle.column_calls.specs.Tables.{builderWith}
+use Rattle.column_calls.proofs.Tables.{builders-with}
 use Rattle.column_calls.proofs.Readings.{FileAt}
 use Rattle.listing_lines.specs.Lines.{refusalLine}
 use Rattle.listing_lines.specs.Tables.{textWith}
@@ -47,12 +51,13 @@ use Rattle.column_listing.proofs.Texts.{text-is}
 
 -- ---- a text and its room
 
--- with the tables of the settings' rates and a new builder
-pub with-tables : (p : Places) (s text : List ℕ) (flag : Bool) (t : AdjustedProbabilityTables) (g : UnanimousGapTables) (b : ConsensusBaseBuilder)
-    → t ≡ adjustedTables (p .settings .«error_rate_post_umi» .0) → g ≡ gapTables (p .settings .«error_rate_pre_umi» .0) → b ≡ startOf (p .settings)
-    → textWith t g b (columnsAt s (p .columns) (p .count)) text flag ≡ placesText p s text flag
+-- with the windows and tables of the settings' rates and a new builder
+pub with-tables : (p : Places) (s text : List ℕ) (flag : Bool) (t : AdjustedProbabilityTables) (rows : List Float) (g : UnanimousGapTables) (b : ConsensusBaseBuilder)
+    → t ≡ adjustedTables (p .settings .«error_rate_post_umi» .0) → rows ≡ windowsOf (t .correct) (t .«error_per_alt»)
+    → g ≡ gapTables (p .settings .«error_rate_pre_umi» .0) → b ≡ startOf (p .settings)
+    → textWith (builderWith rows b) g (columnsAt s (p .columns) (p .count)) text flag ≡ placesText p s text flag
 unfolding placesText
-with-tables p s text flag t g b e k h = rw (e, k, h)
+with-tables p s text flag t rows g b e w k h = rw (h, w, e, builders-with (p .settings), k)
 
 -- with the same string and flag
 pub same-text : (p : Places) (s : List ℕ) {l m : List ℕ} {f g : Bool} → l ≡ m → f ≡ g → placesText p s l f ≡ placesText p s m g

@@ -1,9 +1,7 @@
 -- The text of a file's bytes and places is the text of all its lines. Assumes nothing.
-use mathlib.Core.Path.{_≡_, refl, sym, _∙_, ap}
-use mathlib.Core.Bool.{Bool}
+use mathlib.Core.Path.{_≡_, refl, sym}
 use mathlib.Core.List.{List, [], _∷_, _++_, append-nil, append-assoc}
 use Prim.Native.Nat.{ℕ, _+_}
-use Rattle.rate_tables.specs.Adjusted.{adjustedTables}
 use Rattle.gap_tables.specs.Gaps.{gapTables}
 use Rattle.simple_umi.specs.Consensus.{Found}
 use Rattle.column_file.specs.declared.file.Places.{Places}
@@ -11,21 +9,19 @@ use Rattle.column_file.specs.declared.settings.Settings.{Settings}
 use Rattle.column_file.specs.Format.{Observation}
 use Rattle.column_file.specs.Reading.{File, readFile}
 use Rattle.column_file.specs.Places.{columnsAt}
-use Rattle.column_calls.specs.Columns.{startOf, columnCall}
+use Rattle.column_calls.specs.Columns.{builderOf, columnCall}
 use Rattle.column_calls.proofs.Readings.{FileAt, columns-read}
-use Rattle.column_calls.proofs.Tables.{builder-with}
 use Rattle.listing_lines.specs.Lines.{header, columnLine, columnLines, umiLine, textOf}
-use Rattle.listing_lines.specs.Tables.{linesWith, textWith}
+use Rattle.listing_lines.specs.Tables.{lineWith, linesWith, textWith}
 use Rattle.column_listing.specs.Listing.{linesOf}
 use Rattle.column_listing.specs.Places.{placesText}
 
--- with the tables of the settings' rates, and a new builder at the settings
+-- by the builders and the gap tables of the settings
 module _ (g : Settings) where
-  pub lines-with : (i : ℕ) (cs : List (List Observation))
-      → linesWith (adjustedTables (g .«error_rate_post_umi» .0)) (gapTables (g .«error_rate_pre_umi» .0)) (startOf g) i cs ≡ columnLines i g cs
-  unfolding linesWith columnLines columnLine columnCall
+  pub lines-with : (i : ℕ) (cs : List (List Observation)) → linesWith (builderOf g) (gapTables (g .«error_rate_pre_umi» .0)) i cs ≡ columnLines i g cs
+  unfolding linesWith lineWith columnLines columnLine columnCall
   lines-with i [] = refl
-  lines-with i (c ∷ cs) = rw (builder-with g c, lines-with (i + 1) cs)
+  lines-with i (c ∷ cs) = rw (lines-with (i + 1) cs)
 
 -- lines after lines
 pub text-append : (a b : List (List ℕ)) → textOf (a ++ b) ≡ textOf a ++ textOf b

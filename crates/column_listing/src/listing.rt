@@ -6,10 +6,10 @@ ghost use lib.ListN.{length};
 ghost use Rattle.lent_bytes.specs.Buffer.{replied, written};
 ghost use Rattle.refusals.specs.Refusals.{numberIn};
 ghost use Rattle.refusals.specs.Result.{accepted};
-ghost use Rattle.rate_tables.specs.Adjusted.{adjustedOf};
 ghost use Rattle.unanimous_shortcut.specs.Unanimous.{tablesOf};
 ghost use Rattle.column_file.specs.Reading.{readFile};
 ghost use Rattle.column_file.specs.Places.{columnsAt, readingOf};
+ghost use Rattle.column_calls.specs.Tables.{builderWith};
 ghost use Rattle.column_listing.specs.Listing.{listed, listingOf};
 ghost use Rattle.column_listing.specs.Answers.{listedIn, listingAnswer, listingNumber, listingBuffer, outcomeOf};
 ghost use Rattle.column_listing.specs.Places.{placesText};
@@ -20,6 +20,7 @@ use column_file::Places;
 use column_file::Reading;
 use listing_lines::put_refusal;
 use listing_lines::put_text;
+use observation_windows::windows;
 use rate_tables::AdjustedProbabilityTables;
 use refusals::Refusal;
 use simple_umi::FlaggedAnswer;
@@ -46,8 +47,7 @@ fn fits(
     from: usize,
     count: usize,
     start: ConsensusBaseBuilder,
-    correct: &[f64; 94],
-    error_per_alt: &[f64; 94],
+    rows: &[f64; 752],
     thresholds: &[f64; 94],
     cerr_min: &[f64; 94],
     cap: usize,
@@ -55,8 +55,8 @@ fn fits(
     had_errors: bool,
 ) -> bool
     requires { ⌜ count < 65536 ⌝ }
-    requires { ⌜ length (textWith (adjustedOf (now correct) (now «error_per_alt»)) (tablesOf (now thresholds) (now «cerr_min») cap) start (columnsAt (now file) from count) (now text) «had_errors») ≤ 300 + 70 * count ⌝ }
-    ensures { λ r. ⌜ r ≡ leb (length (textWith (adjustedOf (now (correct .entry)) (now («error_per_alt» .entry))) (tablesOf (now (thresholds .entry)) (now («cerr_min» .entry)) cap) start (columnsAt (now (file .entry)) from count) (now (text .entry)) «had_errors»)) room ⌝ }
+    requires { ⌜ length (textWith (builderWith (now rows) start) (tablesOf (now thresholds) (now «cerr_min») cap) (columnsAt (now file) from count) (now text) «had_errors») ≤ 300 + 70 * count ⌝ }
+    ensures { λ r. ⌜ r ≡ leb (length (textWith (builderWith (now (rows .entry)) start) (tablesOf (now (thresholds .entry)) (now («cerr_min» .entry)) cap) (columnsAt (now (file .entry)) from count) (now (text .entry)) «had_errors»)) room ⌝ }
 {
     if 300 + 70 * count <= room {
         return true;
@@ -67,8 +67,7 @@ fn fits(
         from,
         count,
         start,
-        correct,
-        error_per_alt,
+        rows,
         thresholds,
         cerr_min,
         cap,
@@ -94,6 +93,7 @@ fn write_text(file: &[u8], places: Places, text: &[u8], had_errors: bool, out: &
     let gaps = gap_tables::build_unanimous_gap_tables(pre);
     let correct = adjusted.correct;
     let error = adjusted.error_per_alt;
+    let rows = windows(&correct, &error);
     let thresholds = gaps.thresholds;
     let cerr_min = gaps.cerr_min;
     let cap = gaps.cap;
@@ -105,8 +105,7 @@ fn write_text(file: &[u8], places: Places, text: &[u8], had_errors: bool, out: &
         from,
         count,
         start,
-        &correct,
-        &error,
+        &rows,
         &thresholds,
         &cerr_min,
         cap,
@@ -120,8 +119,7 @@ fn write_text(file: &[u8], places: Places, text: &[u8], had_errors: bool, out: &
         from,
         count,
         start,
-        &correct,
-        &error,
+        &rows,
         &thresholds,
         &cerr_min,
         cap,

@@ -1,23 +1,23 @@
 // The lines of a listing, printed into a buffer from a place on.
 ghost use mathlib.Core.Path.{_≡_};
-ghost use mathlib.Core.List.{[], _∷_, _++_};
-ghost use Rattle.rate_tables.specs.Adjusted.{adjustedOf};
+ghost use mathlib.Core.List.{_∷_, _++_};
 ghost use Rattle.unanimous_shortcut.specs.Unanimous.{tablesOf};
 ghost use Rattle.tie_rules.specs.Lanes.{counted};
 ghost use Rattle.lent_text.specs.Text.{decimal, space};
 ghost use Rattle.lent_text.specs.Printed.{Printed};
 ghost use Rattle.column_file.specs.Places.{columnsAt};
+ghost use Rattle.column_calls.specs.Tables.{builderWith};
 ghost use Rattle.listing_lines.specs.Lines.{lineOf, umiLine, textOf, refusalLine};
 ghost use Rattle.listing_lines.specs.Tables.{linesWith, textWith};
 use base_builder::ConsensusBaseBuilder;
 use base_builder::call_with;
-use column_calls::add_observations;
 use column_file::ColumnPlace;
 use column_file::column_at;
 use lane_calls::Call;
 use lent_text::put_byte;
 use lent_text::put_bytes;
 use lent_text::put_decimal;
+use observation_windows::add_observations;
 use refusals::Refusal;
 
 fn wide(n: u32) -> u64
@@ -71,15 +71,14 @@ fn put_lines(
     from: usize,
     count: usize,
     start: ConsensusBaseBuilder,
-    correct: &[f64; 94],
-    error_per_alt: &[f64; 94],
+    rows: &[f64; 752],
     thresholds: &[f64; 94],
     cerr_min: &[f64; 94],
     cap: usize,
     out: &mut [u8],
     at: usize,
 ) -> usize
-    ensures { λ r. ⌜ Printed (now (out .entry)) at (textOf (linesWith (adjustedOf (now (correct .entry)) (now («error_per_alt» .entry))) (tablesOf (now (thresholds .entry)) (now («cerr_min» .entry)) cap) start 1 (columnsAt (now (file .entry)) from count))) (now (out .exit)) r ⌝ }
+    ensures { λ r. ⌜ Printed (now (out .entry)) at (textOf (linesWith (builderWith (now (rows .entry)) start) (tablesOf (now (thresholds .entry)) (now («cerr_min» .entry)) cap) 1 (columnsAt (now (file .entry)) from count))) (now (out .exit)) r ⌝ }
 {
     let mut column = from;
     let mut number: usize = 0;
@@ -90,7 +89,7 @@ fn put_lines(
             return place;
         };
         let end = first + 2 * depth;
-        let builder = add_observations(start, &file[first..end], correct, error_per_alt);
+        let builder = add_observations(start, &file[first..end], rows);
         let call = call_with(builder, thresholds, cerr_min, cap);
         let counts = builder.observations;
         number += 1;
@@ -117,8 +116,7 @@ pub fn put_text(
     from: usize,
     count: usize,
     start: ConsensusBaseBuilder,
-    correct: &[f64; 94],
-    error_per_alt: &[f64; 94],
+    rows: &[f64; 752],
     thresholds: &[f64; 94],
     cerr_min: &[f64; 94],
     cap: usize,
@@ -126,7 +124,7 @@ pub fn put_text(
     had_errors: bool,
     out: &mut [u8],
 ) -> usize
-    ensures { λ r. ⌜ Printed (now (out .entry)) 0 (textWith (adjustedOf (now (correct .entry)) (now («error_per_alt» .entry))) (tablesOf (now (thresholds .entry)) (now («cerr_min» .entry)) cap) start (columnsAt (now (file .entry)) from count) (now (text .entry)) «had_errors») (now (out .exit)) r ⌝ }
+    ensures { λ r. ⌜ Printed (now (out .entry)) 0 (textWith (builderWith (now (rows .entry)) start) (tablesOf (now (thresholds .entry)) (now («cerr_min» .entry)) cap) (columnsAt (now (file .entry)) from count) (now (text .entry)) «had_errors») (now (out .exit)) r ⌝ }
 {
     let lines = put_bytes(out, 0, b"column base quality depth A C G T\n");
     let umi = put_lines(
@@ -134,8 +132,7 @@ pub fn put_text(
         from,
         count,
         start,
-        correct,
-        error_per_alt,
+        rows,
         thresholds,
         cerr_min,
         cap,

@@ -1,14 +1,16 @@
 -- What the definitions on lanes say of an arbitrary lane. Assumes nothing.
 use mathlib.Core.Path.{_≡_, refl, ap, _∙_, subst}
-use mathlib.Core.Bool.{Bool, true, false}
+use mathlib.Core.Bool.{Bool, true, false, _||_}
 use mathlib.Core.Logic.{inl, inr, ⊎-elim}
-use Prim.Native.Nat.{ℕ, zero, suc, _+_, _<_}
+use Prim.Native.Nat.{ℕ, zero, suc, _+_, _≤_, _<_}
 use native.Mathlib.Nat.{eq-or-lt-of-le, le-of-suc-le-suc, not-suc-le-zero}
 use native.Mathlib.Numerals.{add-one}
 use native.Mathlib.Omega.{arith}
+use lib.Dec.{eqb}
 use lib.ListN.{getD}
+use Rattle.float.specs.Ops.{if_then_else_}
 use Rattle.float.proofs.Cases.{both, and-false}
-use Rattle.tie_rules.specs.Lanes.{lanes, allBelow}
+use Rattle.tie_rules.specs.Lanes.{lanes, allBelow, laneOfByte}
 
 -- one more lane of which the claim holds
 pub below-on : (j : ℕ) (p : ℕ → Bool) → allBelow j p ≡ true → p j ≡ true → allBelow (j + 1) p ≡ true
@@ -49,3 +51,15 @@ lanes-at f d (suc zero) h = refl
 lanes-at f d (suc (suc zero)) h = refl
 lanes-at f d (suc (suc (suc zero))) h = refl
 lanes-at f d (suc (suc (suc (suc i)))) h = absurd (omega arith)
+
+-- a byte that has a lane has one of the four
+first-of : (a b c d : Bool) → (if a then 0 else if b then 1 else if c then 2 else if d then 3 else 4) ≤ 4
+first-of true b c d = omega arith
+first-of false true c d = omega arith
+first-of false false true d = omega arith
+first-of false false false true = omega arith
+first-of false false false false = omega arith
+
+pub lane-of-byte : (x : ℕ) → laneOfByte x ≤ 4
+unfolding laneOfByte
+lane-of-byte x = first-of (eqb x 65 || eqb x 97) (eqb x 67 || eqb x 99) (eqb x 71 || eqb x 103) (eqb x 84 || eqb x 116)

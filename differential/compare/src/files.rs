@@ -10,7 +10,7 @@ mod large;
 pub mod listing;
 pub mod named;
 mod observations;
-mod parts;
+pub mod parts;
 mod rates;
 pub mod reader;
 mod rooms;

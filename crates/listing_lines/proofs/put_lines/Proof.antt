@@ -4,32 +4,29 @@ use mathlib.Core.Path.{_≡_, sym, _∙_}
 use mathlib.Core.List.{List, [], _++_}
 use Prim.Native.Nat.{ℕ, _+_, _-_, _*_, _≤_}
 use lib.ListN.{length, take, drop}
-use Rattle.rate_tables.specs.Adjusted.{adjustedOf}
 use Rattle.unanimous_shortcut.specs.Unanimous.{tablesOf}
-use Rattle.base_builder.specs.Calls.{callOf}
+use Rattle.observation_windows.specs.Windows.{allAdded}
 use Rattle.lent_text.specs.Printed.{Printed}
 use Rattle.lent_text.proofs.Printed.{print-then, print-none, printed-length, printed-as}
 use Rattle.column_file.specs.Places.{columnsAt}
-use Rattle.column_calls.specs.Columns.{pairs}
 use Rattle.column_calls.specs.Tables.{builderWith}
-use Rattle.listing_lines.specs.Lines.{lineOf, textOf}
-use Rattle.listing_lines.specs.Tables.{linesWith}
+use Rattle.listing_lines.specs.Lines.{textOf}
+use Rattle.listing_lines.specs.Tables.{lineWith, linesWith}
 use Rattle.listing_lines.proofs.Lines.{column-fits, lines-more, lines-past, lines-none, one-more, no-more}
 use borrow.Author.Needs.{needs}
 use Rattle.listing_lines.proofs.put_lines.Statement.{statement}
 use Rattle.listing_lines.proofs.put_lines.Tie as tie
 
 abbrev Inv-loop : tie.InvT-loop
-Inv-loop file from count start correct error-per-alt thresholds cerr-min cap out₀ at column₀ number₀ place₀ out column number place =
-    let t = adjustedOf correct error-per-alt in
+Inv-loop file from count start rows thresholds cerr-min cap out₀ at column₀ number₀ place₀ out column number place =
     let g = tablesOf thresholds cerr-min cap in
     (number ≤ count)
     × (done : List ℕ)
     × Printed out₀ at done out place
-    × (done ++ textOf (linesWith t g start (number + 1) (columnsAt file column (count - number))) ≡ textOf (linesWith t g start 1 (columnsAt file from count)))
+    × (done ++ textOf (linesWith (builderWith rows start) g (number + 1) (columnsAt file column (count - number))) ≡ textOf (linesWith (builderWith rows start) g 1 (columnsAt file from count)))
 
 abbrev μ-loop : tie.MeasureT-loop
-μ-loop file from count start correct error-per-alt thresholds cerr-min cap out₀ at column₀ number₀ place₀ out column number place = count - number
+μ-loop file from count start rows thresholds cerr-min cap out₀ at column₀ number₀ place₀ out column number place = count - number
 
 -- the column lies in the file
 inside : (c : tie.After-known-told Inv-loop μ-loop)
@@ -64,10 +61,9 @@ returns c =
     let at-loop = c .before .before .before .before in
     let l = at-loop .loop in
     let a = at-loop .before .before .before .args in
-    let t = adjustedOf (a .correct .now) (a .error-per-alt .now) in
     let g = tablesOf (a .thresholds .now) (a .cerr-min .now) (a .cap) in
     let e = sym (c .before .before .column-at .ensures) ∙ c .enum-told .given .1 in
-    printed-as (l .inv .2) (no-more (l .inv .1) _ _ (lines-past t g (a .start) (a .file .now) (l .column) (a .count - l .number) (l .number + 1) e) (l .inv .3))
+    printed-as (l .inv .2) (no-more (l .inv .1) _ _ (lines-past (a .rows .now) g (a .start) (a .file .now) (l .column) (a .count - l .number) (l .number + 1) e) (l .inv .3))
 
 mul-end : tie.Need-mul-end Inv-loop μ-loop
 mul-end c = omega (arith, inside c)
@@ -100,6 +96,7 @@ loop-less : tie.Need-loop-less Inv-loop μ-loop
 loop-less c = search needs
 
 loop-again : tie.Need-loop-again Inv-loop μ-loop
+unfolding lineWith
 loop-again c =
     let put = c .before .before in
     let called = put .before .before .before in
@@ -110,11 +107,9 @@ loop-again c =
     let a = at-loop .before .before .before .args in
     let n = at-next .next .given in
     let s = a .file .now in
-    let t = adjustedOf (a .correct .now) (a .error-per-alt .now) in
     let g = tablesOf (a .thresholds .now) (a .cerr-min .now) (a .cap) in
     let end = n .0 .0 + 2 * n .0 .1 .0 in
-    let after = builderWith t (a .start) (pairs (take (end - n .0 .0) (drop (n .0 .0) s))) in
-    let line = lineOf (l .number + 1) (callOf g after) (n .0 .1 .0) (after .observations) in
+    let line = lineWith g (l .number + 1) (allAdded (a .rows .now) (a .start) (take (end - n .0 .0) (drop (n .0 .0) s))) (n .0 .1 .0) in
     let e = sym (at-next .before .before .column-at .ensures) ∙ n .1 in
     let d : a .count - (l .number + 1) ≡ a .count - l .number - 1 = omega arith in
     let p : Printed (l .out) (l .place) line (put .put-line .last .0) (put .put-line .result) =
@@ -124,7 +119,7 @@ loop-again c =
       print-then (l .inv .2) p,
       rw d
           (one-more (l .inv .1) line _ _ _
-          (lines-more t g (a .start) s (l .column) (a .count - l .number) (l .number + 1) (n .0 .0) (n .0 .1 .0) (omega arith) e)
+          (lines-more (a .rows .now) g (a .start) s (l .column) (a .count - l .number) (l .number + 1) (n .0 .0) (n .0 .1 .0) (omega arith) e)
           (l .inv .3)),
     )
 
@@ -135,10 +130,9 @@ returns-2 : tie.Need-returns-2 Inv-loop μ-loop
 returns-2 c =
     let l = c .before .loop in
     let a = c .before .before .before .before .args in
-    let t = adjustedOf (a .correct .now) (a .error-per-alt .now) in
     let g = tablesOf (a .thresholds .now) (a .cerr-min .now) (a .cap) in
     printed-as (l .inv .2)
-    (no-more (l .inv .1) _ _ (lines-none t g (a .start) (a .file .now) (l .column) (a .count - l .number) (l .number + 1) (omega arith)) (l .inv .3))
+    (no-more (l .inv .1) _ _ (lines-none (a .rows .now) g (a .start) (a .file .now) (l .column) (a .count - l .number) (l .number + 1) (omega arith)) (l .inv .3))
 
 pub put-lines-spec : {M : Type 1} → statement M
 put-lines-spec =

@@ -1,9 +1,9 @@
 -- `put_text`: the header, the lines and the last line. Assumes nothing.
 use mathlib.Core.Path.{refl}
-use Rattle.rate_tables.specs.Adjusted.{adjustedOf}
 use Rattle.unanimous_shortcut.specs.Unanimous.{tablesOf}
 use Rattle.lent_text.proofs.Printed.{print-then, printed-length}
 use Rattle.column_file.specs.Places.{columnsAt}
+use Rattle.column_calls.specs.Tables.{builderWith}
 use Rattle.listing_lines.specs.Lines.{textOf}
 use Rattle.listing_lines.specs.Tables.{linesWith, textWith}
 use Rattle.listing_lines.proofs.put_text.Statement.{statement}
@@ -28,9 +28,8 @@ whole c =
     let lines = c .before .before .before .before .before .before in
     let header = lines .before .before .before .before in
     let a = header .before .before .before .before .before .before .args in
-    let t = adjustedOf (a .correct .now) (a .error-per-alt .now) in
     let g = tablesOf (a .thresholds .now) (a .cerr-min .now) (a .cap) in
-    let text = textOf (linesWith t g (a .start) 1 (columnsAt (a .file .now) (a .from) (a .count))) in
+    let text = textOf (linesWith (builderWith (a .rows .now) (a .start)) g 1 (columnsAt (a .file .now) (a .from) (a .count))) in
     print-then (print-then {u = text} (header .put-bytes .ensures) (lines .put-lines .ensures)) (c .before .before .put-umi .ensures)
 
 same-length : tie.Need-same-length

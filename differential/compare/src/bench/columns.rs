@@ -1,4 +1,4 @@
-//! Times of whole columns, of call_full and of building the tables.
+//! Times of observations and whole columns, of call_full and of building the tables.
 
 use std::hint::black_box;
 
@@ -6,9 +6,12 @@ use oracle::base_builder::ConsensusBaseBuilder;
 use oracle::base_builder::accessors::{adjusted_tables, call_full, gap_tables};
 
 use super::{Line, seconds};
-use crate::builder::script::{ADD, CALL, CALL_FULL, RESET, events};
+use crate::builder::script::{ADD, CALL_FULL, RESET, events};
 use crate::builder::{BASES, Settings, rule_of};
 use crate::exports;
+use crate::files::parts::Parts;
+use crate::files::usual;
+use crate::histories::columns::Column;
 use crate::random::Random;
 
 /// The rates that the source calls typical, under its default rule.
@@ -24,62 +27,103 @@ const TABLES_BYTES: usize = 3016;
 pub const EVENTS: usize = 1_000_000;
 pub const ROUNDS: usize = 20;
 
+/// How many columns one observation is timed in, and how deep they are: as many as a file has room
+/// for, so that their calls are next to nothing.
+const LONG: (usize, usize) = (3, 10_000);
+
 /// How many times in a row call_full is asked on a column: adding the column up is then about 1
 /// percent of the time.
 const ASKED: usize = 100;
 
-/// A script whose time is taken, as often as it is run.
+/// What both sides run, as often as wanted.
+enum Work {
+    /// Columns, each called: ours in a file, and the Rust's as they are.
+    Columns { file: Vec<u8>, columns: Vec<Column> },
+    /// A list of a builder's calls.
+    Script(Vec<u8>),
+}
+
+/// Work whose time is taken.
 struct Timed {
     function: &'static str,
     arguments: &'static str,
     measure: &'static str,
-    script: Vec<u8>,
+    work: Work,
     /// How many of what is measured it has.
     units: usize,
 }
 
-/// The fastest run of each side, in seconds: of a script once, and of it so many times more.
+/// The fastest run of each side, in seconds: of the work once, and of it so many times more.
 #[derive(Clone, Copy)]
 struct Fastest {
     once: [f64; 2],
     more: [f64; 2],
 }
 
-/// A line of each script and of each pair of rates. Says which scripts' answers differ.
+/// A line of each work and of each pair of rates. Says where the answers differ.
 pub fn lines(seed: u64) -> Result<Vec<Line>, String> {
     let timed = timed(&mut Random::new(seed));
-    for script in &timed {
-        script.check()?;
+    for work in &timed {
+        work.check()?;
     }
     let mut fastest =
         vec![Fastest { once: [f64::INFINITY; 2], more: [f64::INFINITY; 2] }; timed.len()];
     let mut tables = RATES.map(|_| [f64::INFINITY; 2]);
     for _ in 0..ROUNDS {
-        for (script, best) in timed.iter().zip(&mut fastest) {
-            script.run(best);
+        for (work, best) in timed.iter().zip(&mut fastest) {
+            work.run(best);
         }
         for (rates, best) in RATES.into_iter().zip(&mut tables) {
             build_tables(rates, best);
         }
     }
-    let of_scripts = timed.iter().zip(fastest).map(|(script, best)| script.line(best));
+    let of_work = timed.iter().zip(fastest).map(|(work, best)| work.line(best));
     let of_tables = RATES.into_iter().zip(tables).map(|(rates, best)| tables_line(rates, best));
-    Ok(of_scripts.chain(of_tables).collect())
+    Ok(of_work.chain(of_tables).collect())
+}
+
+impl Work {
+    fn columns(columns: Vec<Column>) -> Self {
+        let settings = usual::bytes(SETTINGS);
+        let parts = Parts { settings, columns, strings: Vec::new() };
+        Self::Columns { file: parts.bytes(), columns: parts.columns }
+    }
+
+    /// How many observations or other events a run has, about.
+    fn events(&self) -> usize {
+        match self {
+            Self::Columns { columns, .. } => columns.iter().map(Vec::len).sum(),
+            Self::Script(script) => script.len() / 3,
+        }
+    }
+
+    /// What our answers add up to, in so many runs.
+    fn ours(&self, times: u32) -> u64 {
+        match self {
+            Self::Columns { file, .. } => exports::calls(file, times),
+            Self::Script(script) => exports::history_times(SETTINGS, script, times),
+        }
+    }
+
+    /// What the Rust's do.
+    fn rust(&self, times: u32) -> u64 {
+        match self {
+            Self::Columns { columns, .. } => rust_columns(columns, times),
+            Self::Script(script) => rust_script(script, times),
+        }
+    }
 }
 
 impl Timed {
-    /// How many times more the script is run, so that it is about as many events as wanted.
+    /// How many times more it is run, so that it is about as many events as wanted.
     fn more(&self) -> u32 {
-        (EVENTS / (self.script.len() / 3)).max(1) as u32
+        (EVENTS / self.work.events()).max(1) as u32
     }
 
     /// Whether both sides' answers add up to the same.
     fn check(&self) -> Result<(), String> {
         let times = 2;
-        let (ours, rust) = (
-            exports::history_times(SETTINGS, &self.script, times),
-            rust_times(&self.script, times),
-        );
+        let (ours, rust) = (self.work.ours(times), self.work.rust(times));
         if ours == rust {
             return Ok(());
         }
@@ -91,10 +135,9 @@ impl Timed {
 
     /// Runs it once and many times, the sides taking turns.
     fn run(&self, best: &mut Fastest) {
-        let sides: [fn(&[u8], u32) -> u64; 2] =
-            [rust_times, |script, times| exports::history_times(SETTINGS, script, times)];
+        let sides: [fn(&Work, u32) -> u64; 2] = [Work::rust, Work::ours];
         for (side, times) in sides.into_iter().enumerate() {
-            let took = |runs| seconds(|| times(black_box(&self.script), runs));
+            let took = |runs| seconds(|| times(black_box(&self.work), runs));
             best.once[side] = best.once[side].min(took(1));
             best.more[side] = best.more[side].min(took(1 + self.more()));
         }
@@ -114,19 +157,41 @@ impl Timed {
     }
 }
 
-/// As `consensus_history_times`, by the Rust, whose tables are built once.
-fn rust_times(script: &[u8], times: u32) -> u64 {
+/// A builder of the Rust, whose tables are built once.
+fn rust_builder() -> ConsensusBaseBuilder {
+    ConsensusBaseBuilder::new(SETTINGS.pre, SETTINGS.post).with_tie_rule(rule_of(SETTINGS.rule))
+}
+
+/// As `consensus_calls`, by a builder of the Rust that is reset for each column.
+fn rust_columns(columns: &[Column], times: u32) -> u64 {
+    let mut builder = rust_builder();
     let mut sum = 0;
-    let mut count = |(base, quality)| sum += u64::from(base) + u64::from(quality);
     for _ in 0..times {
-        let mut builder = ConsensusBaseBuilder::new(SETTINGS.pre, SETTINGS.post)
-            .with_tie_rule(rule_of(SETTINGS.rule));
+        for column in columns {
+            builder.reset();
+            for &(base, quality) in column {
+                builder.add(base, quality);
+            }
+            let (base, quality) = builder.call();
+            sum += u64::from(base) + u64::from(quality);
+        }
+    }
+    sum
+}
+
+/// As `consensus_history_times`, by the Rust.
+fn rust_script(script: &[u8], times: u32) -> u64 {
+    let mut sum = 0;
+    for _ in 0..times {
+        let mut builder = rust_builder();
         for event in events(script) {
             match event {
                 [ADD, base, quality] => builder.add(base, quality),
                 [RESET, ..] => builder.reset(),
-                [CALL, ..] => count(builder.call()),
-                [CALL_FULL, ..] => count(call_full(&builder)),
+                [CALL_FULL, ..] => {
+                    let (base, quality) = call_full(&builder);
+                    sum += u64::from(base) + u64::from(quality);
+                }
                 [kind, ..] => unreachable!("no script here has the event {kind}"),
             }
         }
@@ -135,21 +200,22 @@ fn rust_times(script: &[u8], times: u32) -> u64 {
 }
 
 fn timed(random: &mut Random) -> Vec<Timed> {
-    let observed = observations(1, 10_000, random, random_base);
-    let column = |arguments, columns, depth, base: BaseAt, random: &mut Random| Timed {
+    let (count, depth) = LONG;
+    let long = columns(count, depth, random, random_base);
+    let column = |arguments, count, depth, base: BaseAt, random: &mut Random| Timed {
         function: "add, call",
         arguments,
         measure: "a column",
-        script: observations(columns, depth, random, base),
-        units: columns,
+        work: Work::columns(columns(count, depth, random, base)),
+        units: count,
     };
     vec![
         Timed {
             function: "add",
             arguments: "random bases",
             measure: "one observation",
-            script: observed,
-            units: 10_000,
+            work: Work::columns(long),
+            units: count * depth,
         },
         column("unanimous, depth 10", 1_000, 10, |main, _, _| main, random),
         column("unanimous, depth 1,000", 10, 1_000, |main, _, _| main, random),
@@ -162,15 +228,15 @@ fn timed(random: &mut Random) -> Vec<Timed> {
 
 /// Columns of a depth, and on each the long calculation many times.
 fn full_calls(arguments: &'static str, depth: usize, base: BaseAt, random: &mut Random) -> Timed {
-    let columns = 100;
+    let columns = columns(100, depth, random, base);
     let mut script = Vec::new();
-    for event in events(&observations(columns, depth, random, base)) {
-        match event {
-            [CALL, ..] => script.extend([CALL_FULL, 0, 0].repeat(ASKED)),
-            event => script.extend(event),
-        }
+    for column in &columns {
+        script.extend([RESET, 0, 0]);
+        script.extend(column.iter().flat_map(|(base, quality)| [ADD, *base, *quality]));
+        script.extend([CALL_FULL, 0, 0].repeat(ASKED));
     }
-    Timed { function: "call_full", arguments, measure: "a call", script, units: columns * ASKED }
+    let units = columns.len() * ASKED;
+    Timed { function: "call_full", arguments, measure: "a call", work: Work::Script(script), units }
 }
 
 /// The base of an observation of a column, by the column's main base and the observation's place.
@@ -190,19 +256,14 @@ fn mixed_base(main: u8, place: usize, random: &mut Random) -> u8 {
     }
 }
 
-/// Columns of a depth, each after a reset and with a call at its end, with qualities 20 to 40.
-fn observations(columns: usize, depth: usize, random: &mut Random, base: BaseAt) -> Vec<u8> {
-    let mut script = Vec::new();
-    for _ in 0..columns {
+/// So many columns of a depth, with qualities 20 to 40.
+fn columns(count: usize, depth: usize, random: &mut Random, base: BaseAt) -> Vec<Column> {
+    let column = |random: &mut Random| {
         let main = random.one_of(&BASES);
-        script.extend([RESET, 0, 0]);
-        for place in 0..depth {
-            let base = base(main, place, random);
-            script.extend([ADD, base, 20 + random.below(21) as u8]);
-        }
-        script.extend([CALL, 0, 0]);
-    }
-    script
+        let observed = |place| (base(main, place, random), 20 + random.below(21) as u8);
+        (0..depth).map(observed).collect()
+    };
+    (0..count).map(|_| column(random)).collect()
 }
 
 /// Both sides build the tables of a pair of rates anew.

@@ -7,8 +7,7 @@ pub const ADD: u8 = 0;
 pub const RESET: u8 = 1;
 pub const RULE: u8 = 2;
 pub const REPORT: u8 = 3;
-/// Where times are taken, a call stands in the place of a report, and there is one kind more.
-pub const CALL: u8 = 3;
+/// One kind more where times are taken: the long calculation.
 pub const CALL_FULL: u8 = 4;
 
 pub type Event = [u8; 3];

@@ -3,12 +3,11 @@ use native.Mathlib.Omega.{arith}
 use mathlib.Core.Path.{_≡_, refl, sym, _∙_, ap}
 use Prim.Native.Nat.{ℕ, _+_, _-_, _*_, _%_, _^_, _≤_, _<_}
 use lib.ListN.{length, take, drop}
-use Rattle.rate_tables.specs.Adjusted.{adjustedOf}
 use Rattle.unanimous_shortcut.specs.Unanimous.{tablesOf}
 use Rattle.base_builder.specs.Calls.{callOf}
+use Rattle.observation_windows.specs.Windows.{allAdded}
 use Rattle.column_file.specs.Places.{columnsAt}
 use Rattle.column_file.proofs.ColumnWalk.{column-inside}
-use Rattle.column_calls.specs.Columns.{pairs}
 use Rattle.column_calls.specs.Times.{amountOf}
 use Rattle.column_calls.specs.Tables.{builderWith, amountsWith}
 use Rattle.column_calls.proofs.Amounts.{turn, turned-past, turned, wrapped, all-added}
@@ -17,14 +16,13 @@ use Rattle.column_calls.proofs.timing.add_round.Statement.{statement}
 use Rattle.column_calls.proofs.timing.add_round.Tie as tie
 
 abbrev Inv-loop : tie.InvT-loop
-Inv-loop sum file from count start correct error-per-alt thresholds cerr-min cap total₀ place₀ left₀ total place left =
-    let t = adjustedOf correct error-per-alt in
+Inv-loop sum file from count start rows thresholds cerr-min cap total₀ place₀ left₀ total place left =
     let g = tablesOf thresholds cerr-min cap in
-    ((total + amountsWith t g start (columnsAt file place left)) % 2 ^ 64 ≡ (sum + amountsWith t g start (columnsAt file from count)) % 2 ^ 64)
+    ((total + amountsWith (builderWith rows start) g (columnsAt file place left)) % 2 ^ 64 ≡ (sum + amountsWith (builderWith rows start) g (columnsAt file from count)) % 2 ^ 64)
     × (total < 2 ^ 64)
 
 abbrev μ-loop : tie.MeasureT-loop
-μ-loop sum file from count start correct error-per-alt thresholds cerr-min cap total₀ place₀ left₀ total place left = left
+μ-loop sum file from count start rows thresholds cerr-min cap total₀ place₀ left₀ total place left = left
 
 -- the column lies in the file
 inside : (c : tie.After-known-told Inv-loop μ-loop)
@@ -52,10 +50,9 @@ returns : tie.Need-returns Inv-loop μ-loop
 returns c =
     let l = c .before .before .before .before .loop in
     let a = c .before .before .before .before .before .before .args in
-    let t = adjustedOf (a .correct .now) (a .error-per-alt .now) in
     let g = tablesOf (a .thresholds .now) (a .cerr-min .now) (a .cap) in
     let e = sym (c .before .before .column-at .ensures) ∙ c .enum-told .given .1 in
-    all-added (l .total) _ _ (2 ^ 64) (l .inv .1) (turned-past t g (a .start) (a .file .now) (l .place) (l .left) e) (l .inv .0)
+    all-added (l .total) _ _ (2 ^ 64) (l .inv .1) (turned-past (a .rows .now) g (a .start) (a .file .now) (l .place) (l .left) e) (l .inv .0)
 
 mul-end : tie.Need-mul-end Inv-loop μ-loop
 mul-end c = omega (arith, inside c)
@@ -99,14 +96,13 @@ loop-again c =
     let a = at-loop .before .before .args in
     let n = at-next .next .given in
     let s = a .file .now in
-    let t = adjustedOf (a .correct .now) (a .error-per-alt .now) in
     let g = tablesOf (a .thresholds .now) (a .cerr-min .now) (a .cap) in
     let e = sym (at-next .before .before .column-at .ensures) ∙ n .1 in
-    let more = amountOf (callOf g (builderWith t (a .start) (pairs (take (n .0 .0 + 2 * n .0 .1 .0 - n .0 .0) (drop (n .0 .0) s))))) in (
+    let more = amountOf (callOf g (allAdded (a .rows .now) (a .start) (take (n .0 .0 + 2 * n .0 .1 .0 - n .0 .0) (drop (n .0 .0) s)))) in (
       rw (c .wrapping-add-u64 .ensures, c .before .amount .ensures, c .before .before .call-with .ensures, at-built .add-observations .ensures)
           (wrapped (l .total) more _ (2 ^ 64)
           ∙ ap (λ (k : ℕ). (l .total + k) % 2 ^ 64)
-          (sym (turn t g (a .start) s (l .place) (l .left) (n .0 .0) (n .0 .1 .0) (at-next .before .before .before .loop-test .taken) e)) ∙ l .inv .0),
+          (sym (turn (a .rows .now) g (a .start) s (l .place) (l .left) (n .0 .0) (n .0 .1 .0) (at-next .before .before .before .loop-test .taken) e)) ∙ l .inv .0),
       omega (arith, c .wrapping-add-u64 .ensures),
     )
 
@@ -114,9 +110,8 @@ returns-2 : tie.Need-returns-2 Inv-loop μ-loop
 returns-2 c =
     let l = c .before .loop in
     let a = c .before .before .before .args in
-    let t = adjustedOf (a .correct .now) (a .error-per-alt .now) in
     let g = tablesOf (a .thresholds .now) (a .cerr-min .now) (a .cap) in
-    all-added (l .total) _ _ (2 ^ 64) (l .inv .1) (turned t g (a .start) (a .file .now) (l .place) (l .left) (omega arith)) (l .inv .0)
+    all-added (l .total) _ _ (2 ^ 64) (l .inv .1) (turned (a .rows .now) g (a .start) (a .file .now) (l .place) (l .left) (omega arith)) (l .inv .0)
 
 pub add-round-spec : {M : Type 1} → statement M
 add-round-spec =

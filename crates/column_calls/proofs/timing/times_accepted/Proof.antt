@@ -1,6 +1,6 @@
--- `times_accepted`: all rounds with the tables of the file's rates, from a new builder at its settings. Assumes nothing.
+-- `times_accepted`: all rounds with the windows and tables of the file's rates, from a new builder at its settings. Assumes nothing.
 use Rattle.column_file.specs.Places.{columnsAt}
-use Rattle.column_calls.proofs.Tables.{amounts-with}
+use Rattle.column_calls.proofs.Tables.{builders-with, amounts-with}
 use borrow.Author.Needs.{needs}
 use Rattle.column_calls.proofs.timing.times_accepted.Statement.{statement}
 use Rattle.column_calls.proofs.timing.times_accepted.Tie as tie
@@ -11,6 +11,9 @@ compute-requires c κs = search needs
 build-unanimous-gap-tables-requires : tie.Need-build-unanimous-gap-tables-requires
 build-unanimous-gap-tables-requires c κs = search needs
 
+windows-requires : tie.Need-windows-requires
+windows-requires c κs = search needs
+
 start-requires : tie.Need-start-requires
 start-requires c κs = search needs
 
@@ -19,13 +22,21 @@ add-rounds-requires c κs = search needs
 
 returns : tie.Need-returns
 returns c =
-    let at-start = c .before .before .before .before .before in
-    let at-gaps = at-start .before .before .before .before .before in
+    let at-start = c .before .before .before .before in
+    let at-windows = at-start .before .before .before in
+    let at-gaps = at-windows .before .before .before .before .before in
     let a = at-gaps .before .before .before .before .before .before .args in
     let p = a .places in
     let cs = columnsAt (a .file .now) (p .columns) (p .count) in
-    let gaps = at-gaps .build-unanimous-gap-tables .ensures in
-    rw (← amounts-with (p .settings) cs, ← at-gaps .before .compute .ensures, ← gaps, ← at-start .start .ensures) (c .add-rounds .ensures)
+    rw (
+      ← amounts-with (p .settings) cs,
+      ← builders-with (p .settings),
+      ← at-gaps .before .compute .ensures,
+      ← at-windows .windows .ensures,
+      ← at-gaps .build-unanimous-gap-tables .ensures,
+      ← at-start .start .ensures,
+    )
+    (c .add-rounds .ensures)
 
 pub times-accepted-spec : {M : Type 1} → statement M
 times-accepted-spec =
@@ -33,6 +44,7 @@ times-accepted-spec =
     (tie.spec
     compute-requires
     build-unanimous-gap-tables-requires
+    windows-requires
     start-requires
     add-rounds-requires
     returns)

@@ -1,0 +1,3 @@
+pub mod Bases
+pub mod Turns
+pub mod Laws

@@ -1,0 +1,92 @@
+-- Observations one at a time, and how many more a builder can count. Assumes nothing.
+use mathlib.Core.Path.{_≡_, refl, sym, _∙_, ap}
+use mathlib.Core.Bool.{true, false, or-true}
+use mathlib.Core.List.{List, [], _∷_}
+use Prim.Native.Nat.{ℕ, zero, suc, _+_, _-_, _≤_, _<_}
+use native.Mathlib.Numerals.{add-one}
+use native.Mathlib.Omega.{arith}
+use borrow.Author.Tests.{eqb-false, le-leb, lt-leb}
+use lib.Dec.{eqb}
+use lib.ListN.{length, getD, drop, length-drop}
+use lib.Seq.{drop-cons}
+use lib.Ieee.{Float}
+use Rattle.tie_rules.specs.Lanes.{lanes, noLane, laneOfByte, counted}
+use Rattle.tie_rules.proofs.Lanes.{lane-of-byte}
+use Rattle.base_builder.specs.declared.builder.ConsensusBaseBuilder.{ConsensusBaseBuilder}
+use Rattle.base_builder.specs.Observation.{countOf}
+use Rattle.base_builder.specs.Builder.{total, isFull}
+use Rattle.observation_windows.specs.Windows.{windowAt, windowObserved, windowAdded, allAdded}
+
+-- ---- bytes two by two
+
+-- two bytes and what follows
+pub two : (s : List ℕ) (i : ℕ) → i + 1 < length s → drop i s ≡ getD s i 0 ∷ getD s (i + 1) 0 ∷ drop (i + 2) s
+two s i h =
+    let end : suc (i + 1) ≡ i + 2 = omega arith in
+    let l : i < length s = omega arith in
+    drop-cons s i 0 l
+    ∙ ap (λ (k : ℕ). getD s i 0 ∷ drop k s) (sym (add-one i))
+    ∙ ap (λ (l : List ℕ). getD s i 0 ∷ l) (drop-cons s (i + 1) 0 h ∙ ap (λ (k : ℕ). getD s (i + 1) 0 ∷ drop k s) end)
+
+-- fewer than two bytes
+few : (rows : List Float) (b : ConsensusBaseBuilder) (s : List ℕ) → length s ≤ 1 → allAdded rows b s ≡ b
+unfolding allAdded
+few rows b [] h = refl
+few rows b (x ∷ []) h = refl
+few rows b (x ∷ y ∷ s) h = absurd (omega arith)
+
+-- ---- how many more can be counted
+
+-- one more is counted
+one-more : (ns : List ℕ) (k : ℕ) → k < 4 → total ns < 4294967295 → total (lanes (λ i. countOf (counted ns i) k i)) ≡ total ns + 1
+unfolding total lanes countOf
+one-more ns zero h t = omega arith
+one-more ns (suc zero) h t = omega arith
+one-more ns (suc (suc zero)) h t = omega arith
+one-more ns (suc (suc (suc zero))) h t = omega arith
+one-more ns (suc (suc (suc (suc k)))) h t = absurd (omega arith)
+
+-- a full builder stays as it is
+full-stays : (rows : List Float) (b : ConsensusBaseBuilder) (s : List ℕ) → isFull b ≡ true → allAdded rows b s ≡ b
+unfolding allAdded windowAdded
+full-stays rows b [] h = refl
+full-stays rows b (x ∷ []) h = refl
+full-stays rows b (x ∷ y ∷ s) h = rw (h, or-true (eqb (laneOfByte x) noLane)) (full-stays rows b s h)
+
+-- ---- the turns of a loop over the bytes s, at place i
+
+module _ (rows : List Float) (s : List ℕ) (i : ℕ) (b : ConsensusBaseBuilder) where
+  -- nothing is left
+  pub all-done : length s ≤ i + 1 → allAdded rows b (drop i s) ≡ b
+  all-done h = few rows b (drop i s) (rw (length-drop i s) (omega arith))
+
+  -- one observation more
+  all-more : i + 1 < length s → allAdded rows b (drop i s) ≡ allAdded rows (windowAdded rows (getD s i 0) (getD s (i + 1) 0) b) (drop (i + 2) s)
+  unfolding allAdded
+  all-more h = rw (two s i h)
+
+  -- no base
+  pub ignored : i + 1 < length s → eqb (laneOfByte (getD s i 0)) noLane ≡ true → allAdded rows b (drop (i + 2) s) ≡ allAdded rows b (drop i s)
+  unfolding windowAdded
+  ignored h n = sym (all-more h ∙ rw n)
+
+  -- with so much room left
+  module _ (left : ℕ) (e : left ≡ 4294967295 - total (b .observations)) where
+    -- none
+    pub stays : left ≡ 0 → allAdded rows b (drop i s) ≡ b
+    unfolding isFull
+    stays z = full-stays rows b (drop i s) (le-leb 4294967295 (total (b .observations)) (omega arith))
+
+    -- some, and a base
+    module _ (n : eqb (laneOfByte (getD s i 0)) noLane ≡ false) (some : left ≡ 0 → ⊥) (after : ConsensusBaseBuilder)
+        (o : let k = laneOfByte (getD s i 0) in after ≡ windowObserved rows (windowAt (getD s (i + 1) 0) k) k b) where
+      pub room-less : left - 1 ≡ 4294967295 - total (after .observations)
+      unfolding windowObserved
+      room-less =
+          let l = lane-of-byte (getD s i 0) in
+          let d = eqb-false (laneOfByte (getD s i 0)) 4 n in
+          rw o (omega (arith, one-more (b .observations) (laneOfByte (getD s i 0)) (omega arith) (omega arith)))
+
+      pub observed : i + 1 < length s → allAdded rows after (drop (i + 2) s) ≡ allAdded rows b (drop i s)
+      unfolding windowAdded isFull
+      observed h = rw o (sym (all-more h ∙ rw (n, lt-leb 4294967295 (total (b .observations)) (omega arith))))

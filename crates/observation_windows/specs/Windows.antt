@@ -1,0 +1,60 @@
+-- What observations do to a builder by a table of windows. Definitions only.
+use Prim.Native.Nat.{ℕ, _+_, _*_, _-_, _/_, _%_}
+use mathlib.Core.Bool.{_||_}
+use mathlib.Core.List.{List, [], _∷_}
+use lib.Dec.{eqb}
+use lib.ListN.{getD}
+use lib.Ieee.{Float, nan}
+use Rattle.float.specs.Ops.{if_then_else_}
+use Rattle.rate_tables.specs.Tables.{listed}
+use Rattle.tie_rules.specs.Lanes.{lanes, noLane, laneOfByte, counted}
+use Rattle.base_builder.specs.declared.observation.Sum.{Sum}
+use Rattle.base_builder.specs.declared.builder.ConsensusBaseBuilder.{ConsensusBaseBuilder}
+use Rattle.base_builder.specs.Observation.{movedBy, countOf}
+use Rattle.base_builder.specs.Builder.{sumOf, entryOf, isFull}
+
+-- ---- the table
+
+-- the entry at a place: row i / 8 is e e e a e e e e, with a the first table's entry and e the second's
+unfoldable pub windowEntry : List Float → List Float → ℕ → Float
+windowEntry correct error i =
+    if eqb (i % 8) 3 then getD correct (i / 8) nan
+    else getD error (i / 8) nan
+
+-- a row for each of the 94 qualities
+unfoldable pub windowsOf : List Float → List Float → List Float
+windowsOf correct error = listed (windowEntry correct error) 0 752
+
+-- where the window of lane k starts in the row of a quality: lane k, k places on, is at the row's place 3
+abbrev pub windowAt : ℕ → ℕ → ℕ
+windowAt q k = 8 * entryOf q + (3 - k)
+
+-- ---- observations, by any table
+
+-- the sum of lane i by the window that starts at a place
+unfoldable pub windowMoved : List Float → ℕ → ConsensusBaseBuilder → ℕ → Sum
+windowMoved rows from b i = movedBy (getD rows (from + i) nan) (sumOf b i)
+
+-- the builder after lane k was observed
+unfoldable pub windowObserved : List Float → ℕ → ℕ → ConsensusBaseBuilder → ConsensusBaseBuilder
+windowObserved rows from k b =
+    record {
+      likelihoods = lanes (λ i. windowMoved rows from b i .lane);
+      compensations = lanes (λ i. windowMoved rows from b i .compensation);
+      observations = lanes (λ i. countOf (counted (b .observations) i) k i);
+      «tie_rule» = b .«tie_rule»;
+      «ln_error_pre_umi» = b .«ln_error_pre_umi»;
+    }
+
+-- after a base was added at a quality: a byte that is no base is ignored, and a full builder stays as it is
+unfoldable pub windowAdded : List Float → ℕ → ℕ → ConsensusBaseBuilder → ConsensusBaseBuilder
+windowAdded rows base q b =
+    let k = laneOfByte base in
+    if eqb k noLane || isFull b then b
+    else windowObserved rows (windowAt q k) k b
+
+-- after observations in their order, base and quality in turn; a byte left over is none
+unfoldable pub allAdded : List Float → ConsensusBaseBuilder → List ℕ → ConsensusBaseBuilder
+allAdded rows b [] = b
+allAdded rows b (base ∷ []) = b
+allAdded rows b (base ∷ q ∷ r) = allAdded rows (windowAdded rows base q b) r

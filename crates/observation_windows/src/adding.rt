@@ -1,0 +1,129 @@
+// Observations, one after another. The loop does not branch on the lane, and has no index into the
+// builder that is not a constant: so lanes, compensations and counts stay in registers.
+ghost use mathlib.Core.Path.{_≡_};
+ghost use mathlib.Core.Bool.{false, not};
+ghost use Prim.Native.Nat.{_+_, _-_, _<_};
+ghost use lib.Dec.{eqb};
+ghost use Rattle.tie_rules.specs.Lanes.{noLane, laneOfByte};
+ghost use Rattle.base_builder.specs.Builder.{total as totalOf};
+ghost use Rattle.observation_windows.specs.Windows.{windowMoved, windowObserved, allAdded};
+use base_builder::ConsensusBaseBuilder;
+use base_builder::Sum;
+use base_builder::count;
+use base_builder::entry;
+use base_builder::moved;
+use base_builder::total;
+use phred::PhredScore;
+
+// The same answer for all bases, which becomes one test of a bit.
+fn is_base(base: u8) -> bool
+    ensures { λ r. ⌜ r ≡ not (eqb (laneOfByte base) noLane) ⌝ }
+{
+    match base {
+        b'A' | b'C' | b'G' | b'T' | b'a' | b'c' | b'g' | b't' => true,
+        _ => false,
+    }
+}
+
+// The lane of a base by two bits of its byte, with no jump: they are 0, 1, 3 and 2 for A, C, G and T.
+fn lane_of_base(base: u8) -> usize
+    requires { ⌜ eqb (laneOfByte base) noLane ≡ false ⌝ }
+    ensures { λ r. ⌜ r ≡ laneOfByte base ⌝ }
+    ensures { λ r. ⌜ r < 4 ⌝ }
+{
+    let bits = base / 2 % 4;
+    if bits < 2 {
+        return bits as usize;
+    }
+    (5 - bits) as usize
+}
+
+// How many bases more can be counted.
+fn room(observations: [u32; 4]) -> u64
+    ensures { λ r. ⌜ r ≡ 4294967295 - totalOf observations ⌝ }
+{
+    let counted = total(observations);
+    if 4294967295 <= counted {
+        return 0;
+    }
+    4294967295 - counted
+}
+
+// Lane i after an observation whose window starts at a place.
+fn moved_lane(builder: ConsensusBaseBuilder, rows: &[f64; 752], from: usize, i: usize) -> Sum
+    requires { ⌜ (i < 4) × (from + i < 752) ⌝ }
+    ensures { λ r. ⌜ r ≡ windowMoved (now (rows .entry)) from builder i ⌝ }
+{
+    let lanes = builder.likelihoods;
+    let compensations = builder.compensations;
+    let sum = Sum {
+        lane: lanes[i],
+        compensation: compensations[i],
+    };
+    moved(rows[from + i], sum)
+}
+
+// The builder after lane k was observed.
+fn step(
+    builder: ConsensusBaseBuilder,
+    rows: &[f64; 752],
+    from: usize,
+    k: usize,
+) -> ConsensusBaseBuilder
+    requires { ⌜ from < 749 ⌝ }
+    ensures { λ r. ⌜ r ≡ windowObserved (now (rows .entry)) from k builder ⌝ }
+{
+    let a = moved_lane(builder, rows, from, 0);
+    let c = moved_lane(builder, rows, from, 1);
+    let g = moved_lane(builder, rows, from, 2);
+    let t = moved_lane(builder, rows, from, 3);
+    let n = builder.observations;
+    let rule = builder.tie_rule;
+    let pre = builder.ln_error_pre_umi;
+    ConsensusBaseBuilder {
+        likelihoods: [a.lane, c.lane, g.lane, t.lane],
+        compensations: [
+            a.compensation,
+            c.compensation,
+            g.compensation,
+            t.compensation,
+        ],
+        observations: [
+            count(n[0], k, 0),
+            count(n[1], k, 1),
+            count(n[2], k, 2),
+            count(n[3], k, 3),
+        ],
+        tie_rule: rule,
+        ln_error_pre_umi: pre,
+    }
+}
+
+// All observations, base and quality in turn.
+pub fn add_observations(
+    builder: ConsensusBaseBuilder,
+    observations: &[u8],
+    rows: &[f64; 752],
+) -> ConsensusBaseBuilder
+    ensures { λ r. ⌜ r ≡ allAdded (now (rows .entry)) builder (now (observations .entry)) ⌝ }
+{
+    let counts = builder.observations;
+    let mut left = room(counts);
+    let mut after = builder;
+    let mut i = 0;
+    while i + 1 < observations.len() {
+        let base = observations[i];
+        if is_base(base) {
+            // A full builder takes no base more.
+            if left == 0 {
+                return after;
+            }
+            let k = lane_of_base(base);
+            let q = entry(PhredScore(observations[i + 1]));
+            after = step(after, rows, 8 * q + (3 - k), k);
+            left -= 1;
+        }
+        i += 2;
+    }
+    after
+}
