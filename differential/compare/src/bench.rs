@@ -2,6 +2,7 @@
 
 mod columns;
 mod files;
+mod growth;
 mod umis;
 
 use std::hint::black_box;
@@ -70,8 +71,15 @@ pub fn run(seed: u64, markdown: bool) -> bool {
         files::ROUNDS
     );
     println!("ratio: the Rust's time over ours, above 1 where ours is less\n");
-    let table = table(&lines);
-    print!("{}", if markdown { table.markdown() } else { table.aligned() });
+    let shown = |table: &Table| if markdown { table.markdown() } else { table.aligned() };
+    print!(
+        "{}\nhow the times grow; to text: less the time of a file with no columns\n\n",
+        shown(&table(&lines))
+    );
+    match growth::table(seed) {
+        Ok(grown) => print!("{}", shown(&grown)),
+        Err(problem) => println!("bench: {problem}"),
+    }
     true
 }
 

@@ -6,7 +6,7 @@ use oracle::base_builder::ConsensusBaseBuilder;
 use oracle::base_builder::accessors::{adjusted_tables, call_full, gap_tables};
 
 use super::{Line, seconds};
-use crate::builder::script::{ADD, CALL_FULL, RESET, events};
+use crate::builder::script::{ADD, CALL_FULL, REPORT, RESET, events};
 use crate::builder::{BASES, Settings, rule_of};
 use crate::exports;
 use crate::files::parts::Parts;
@@ -15,7 +15,7 @@ use crate::histories::columns::Column;
 use crate::random::Random;
 
 /// The rates that the source calls typical, under its default rule.
-const SETTINGS: Settings = Settings { pre: 45, post: 40, rule: 0 };
+pub const SETTINGS: Settings = Settings { pre: 45, post: 40, rule: 0 };
 
 /// Pairs of rates whose tables are built: the typical ones, and those of the UMI caller.
 const RATES: [(u8, u8); 2] = [(45, 40), (90, 90)];
@@ -36,7 +36,7 @@ const LONG: (usize, usize) = (3, 10_000);
 const ASKED: usize = 100;
 
 /// What both sides run, as often as wanted.
-enum Work {
+pub enum Work {
     /// Columns, each called: ours in a file, and the Rust's as they are.
     Columns { file: Vec<u8>, columns: Vec<Column> },
     /// A list of a builder's calls.
@@ -44,7 +44,7 @@ enum Work {
 }
 
 /// Work whose time is taken.
-struct Timed {
+pub struct Timed {
     function: &'static str,
     arguments: &'static str,
     measure: &'static str,
@@ -62,28 +62,34 @@ struct Fastest {
 
 /// A line of each work and of each pair of rates. Says where the answers differ.
 pub fn lines(seed: u64) -> Result<Vec<Line>, String> {
-    let timed = timed(&mut Random::new(seed));
-    for work in &timed {
-        work.check()?;
-    }
-    let mut fastest =
-        vec![Fastest { once: [f64::INFINITY; 2], more: [f64::INFINITY; 2] }; timed.len()];
+    let mut lines = measured(&timed(&mut Random::new(seed)))?;
     let mut tables = RATES.map(|_| [f64::INFINITY; 2]);
     for _ in 0..ROUNDS {
-        for (work, best) in timed.iter().zip(&mut fastest) {
-            work.run(best);
-        }
         for (rates, best) in RATES.into_iter().zip(&mut tables) {
             build_tables(rates, best);
         }
     }
-    let of_work = timed.iter().zip(fastest).map(|(work, best)| work.line(best));
-    let of_tables = RATES.into_iter().zip(tables).map(|(rates, best)| tables_line(rates, best));
-    Ok(of_work.chain(of_tables).collect())
+    lines.extend(RATES.into_iter().zip(tables).map(|(rates, best)| tables_line(rates, best)));
+    Ok(lines)
+}
+
+/// A line of each work, the works taking turns.
+pub fn measured(timed: &[Timed]) -> Result<Vec<Line>, String> {
+    for work in timed {
+        work.check()?;
+    }
+    let mut fastest =
+        vec![Fastest { once: [f64::INFINITY; 2], more: [f64::INFINITY; 2] }; timed.len()];
+    for _ in 0..ROUNDS {
+        for (work, best) in timed.iter().zip(&mut fastest) {
+            work.run(best);
+        }
+    }
+    Ok(timed.iter().zip(fastest).map(|(work, best)| work.line(best)).collect())
 }
 
 impl Work {
-    fn columns(columns: Vec<Column>) -> Self {
+    pub fn columns(columns: Vec<Column>) -> Self {
         let settings = usual::bytes(SETTINGS);
         let parts = Parts { settings, columns, strings: Vec::new() };
         Self::Columns { file: parts.bytes(), columns: parts.columns }
@@ -115,6 +121,12 @@ impl Work {
 }
 
 impl Timed {
+    /// Of columns, each called.
+    pub fn column(work: Work, columns: usize) -> Self {
+        let (function, arguments, measure) = ("add, call", "", "a column");
+        Self { function, arguments, measure, work, units: columns }
+    }
+
     /// How many times more it is run, so that it is about as many events as wanted.
     fn more(&self) -> u32 {
         (EVENTS / self.work.events()).max(1) as u32
@@ -182,16 +194,15 @@ fn rust_columns(columns: &[Column], times: u32) -> u64 {
 /// As `consensus_history_times`, by the Rust.
 fn rust_script(script: &[u8], times: u32) -> u64 {
     let mut sum = 0;
+    let mut count = |(base, quality)| sum += u64::from(base) + u64::from(quality);
     for _ in 0..times {
         let mut builder = rust_builder();
         for event in events(script) {
             match event {
                 [ADD, base, quality] => builder.add(base, quality),
                 [RESET, ..] => builder.reset(),
-                [CALL_FULL, ..] => {
-                    let (base, quality) = call_full(&builder);
-                    sum += u64::from(base) + u64::from(quality);
-                }
+                [REPORT, ..] => count(builder.call()),
+                [CALL_FULL, ..] => count(call_full(&builder)),
                 [kind, ..] => unreachable!("no script here has the event {kind}"),
             }
         }

@@ -57,7 +57,7 @@ pub fn lines(seed: u64) -> Result<Vec<Line>, String> {
 
 /// The fastest run of each side in seconds, the sides taking turns. Both write into a buffer that they are lent
 /// again and again; ours has room for the longest text that so many columns can have.
-fn to_text(file: &[u8]) -> Result<[f64; 2], String> {
+pub fn to_text(file: &[u8]) -> Result<[f64; 2], String> {
     let mut caller = SimpleUmiConsensusCaller::new();
     let mut text = Vec::new();
     list(file, &mut caller, &mut text);
@@ -110,7 +110,7 @@ fn calls(arguments: String, file: &[u8]) -> Result<Line, String> {
     Ok(line("add, call", arguments, each))
 }
 
-fn line(function: &'static str, arguments: String, best: [f64; 2]) -> Line {
+pub fn line(function: &'static str, arguments: String, best: [f64; 2]) -> Line {
     let [rust, ours] = best.map(|seconds| seconds * 1e9);
     Line { function, arguments, measure: MEASURE, rust, ours }
 }

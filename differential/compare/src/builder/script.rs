@@ -7,7 +7,7 @@ pub const ADD: u8 = 0;
 pub const RESET: u8 = 1;
 pub const RULE: u8 = 2;
 pub const REPORT: u8 = 3;
-/// One kind more where times are taken: the long calculation.
+/// Where times are taken a report is the call alone, and there is one kind more: the long calculation.
 pub const CALL_FULL: u8 = 4;
 
 pub type Event = [u8; 3];
