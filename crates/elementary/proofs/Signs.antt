@@ -2,11 +2,12 @@
 -- the definition. Assumes nothing.
 use mathlib.Core.Path.{_≡_, refl, sym, _∙_}
 use mathlib.Core.Bool.{Bool, true, false, _&&_}
+use Prim.Native.Nat.{ℕ}
 use lib.Ieee.{Float, nan, lt, le, eq, ne, isNan, div, ofBits}
-use Rattle.float.specs.Ops.{nought, infinite, if_then_else_}
-use Rattle.float.proofs.Cases.{test, choice}
+use Rattle.float.specs.Ops.{bits, nought, infinite, if_then_else_}
+use Rattle.float.proofs.Cases.{test, choice, both}
 use Rattle.float.proofs.Order.{ne-self, nan-alone, nan-not-lt, le-numbers, le-not-lt}
-use Rattle.elementary.specs.Exp.{from0Of, stepsOf, nearOf, highest, lowest, expOf}
+use Rattle.elementary.specs.Exp.{from0Of, lowest, farOf, stepsOf, powerAt, rowAt, inside, termOf, raisedOf, nearOf, expOf}
 use Rattle.elementary.specs.LnOnePlus.{numberOf, lnOnePlusOf}
 
 -- 0 or more, and so no NaN
@@ -25,18 +26,30 @@ from-0 : (y : Float) → From0 (from0Of y)
 unfolding from0Of
 from-0 y = choice From0 (le nought y) y nought (λ t. t) (λ t. zero-from-0)
 
+far-from-0 : (x : Float) (head : ℕ) (t : Float) (k : ℕ) → From0 (farOf x head t k)
+far-from-0 x head t k = choice From0 (lt x lowest) nought _ (λ l. zero-from-0) (λ l. from-0 _)
+
 near-from-0 : (x : Float) → From0 (nearOf x)
 unfolding nearOf
-near-from-0 x = choice From0 (ne (stepsOf x) (stepsOf x)) nought _ (λ t. zero-from-0) (λ t. from-0 _)
+near-from-0 x =
+    let m = stepsOf x in
+    let t = termOf x m in
+    let y = raisedOf m t in
+    choice From0 (inside m && le nought y) y (farOf x (rowAt m .head) t (powerAt m))
+    (λ h. both (inside m) (le nought y) h .1)
+    (λ h. far-from-0 x (rowAt m .head) t (powerAt m))
 
 -- the exponential of a number is 0 or more
 pub exp-from-0 : (x : Float) → ne x x ≡ false → le nought (expOf x) ≡ true
 unfolding expOf
-exp-from-0 x n = rw n (choice From0 (lt highest x) infinite _ (λ t. infinite-from-0) (λ t. choice From0 (lt x lowest) nought (nearOf x) (λ u. zero-from-0) (λ u. near-from-0 x)))
+exp-from-0 x n = rw n (choice From0 (lt x (bits 0x4086_3000_0000_0000)) (nearOf x) infinite (λ h. near-from-0 x) (λ h. infinite-from-0))
+
+exp-at-nan : expOf nan ≡ nan
+unfolding expOf lt ne
+exp-at-nan = refl
 
 exp-of-nan : (x : Float) → ne x x ≡ true → expOf x ≡ x
-unfolding expOf
-exp-of-nan x n = rw n
+exp-of-nan x n = rw (nan-alone x n) exp-at-nan
 
 -- no argument gives an exp below 0
 pub exp-not-below : (x : Float) → lt (expOf x) nought ≡ false

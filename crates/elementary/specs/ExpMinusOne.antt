@@ -1,5 +1,5 @@
 -- exp(x) - 1: for a y near 0 it is y + y²/2 and a correction; a little further below 0 it is (exp(y) - 1)/2 - 1/2 at y = x + ln 2. Definitions only.
-use lib.Ieee.{Float, neg}
+use lib.Ieee.{Float, eq, neg}
 use Rattle.elementary.specs.declared.exp_minus_one.Correction.{Correction}
 use Rattle.float.specs.Ops.{_⊕_, _⊖_, _⊗_, _⊘_, bits, nought, one, if_then_else_}
 use Rattle.float.specs.Methods.{betweenOf}
@@ -7,7 +7,27 @@ use Rattle.elementary.specs.Fma.{fmaSmallProductOf, fmaLargeProductOf}
 use Rattle.elementary.specs.Exp.{expOf}
 use Rattle.elementary.specs.LnOnePlus.{half}
 
--- y²/2, and e such that exp(y) - 1 is y - (e·y - y²/2): a rational form of exp with r, a series in y²/2
+-- 3
+abbrev pub three : Float
+three = bits 0x4008_0000_0000_0000
+
+-- 6
+abbrev pub six : Float
+six = bits 0x4018_0000_0000_0000
+
+-- the number just above 1
+abbrev pub up : Float
+up = bits 0x3ff0_0000_0000_0001
+
+-- the number just below 1
+abbrev pub down : Float
+down = bits 0x3fef_ffff_ffff_ffff
+
+-- e such that exp(y) - 1 is y - (e·y - y²/2), for h = y/2, hy = y²/2 and the series r: a rational form of exp
+abbrev pub endOf : Float → Float → Float → Float → Float
+endOf h y r hy = let n = h ⊗ r ⊖ three in (r ⊕ n) ⊘ (y ⊗ n ⊕ six) ⊗ hy
+
+-- y²/2, r, and two numbers between which e lies: h and y are moved by more than the products with them lose when they are rounded, 2^-55 and 2^-53
 unfoldable pub correctionOf : Float → Correction
 correctionOf y =
     let h = half ⊗ y in
@@ -19,28 +39,41 @@ correctionOf y =
     let q4 = bits 0x3ed0_cfca_86e6_5239 in
     let q5 = bits 0xbe8a_fdb7_6e09_c32d in
     let r = h2 ⊗ h2 ⊗ (hy ⊗ q5 ⊕ q4) ⊕ (h2 ⊗ (hy ⊗ q3 ⊕ q2) ⊕ (hy ⊗ q1 ⊕ one)) in
-    let n = fmaSmallProductOf h r (neg (bits 0x4008_0000_0000_0000)) in
-    record { half = hy; e = (r ⊕ n) ⊘ fmaSmallProductOf y n (bits 0x4018_0000_0000_0000) ⊗ hy }
+    let dh = bits 0x3c80_0000_0000_0000 in
+    let dy = bits 0x3ca0_0000_0000_0000 in
+    record { half = hy; r = r; low = endOf (h ⊖ dh) (y ⊕ dy) r hy; high = endOf (h ⊕ dh) (y ⊖ dy) r hy }
 
--- for an x up to ½·ln 2 either way
-unfoldable pub nearZeroOf : Float → Float
-nearZeroOf x =
-    let a = correctionOf x in
-    x ⊖ fmaSmallProductOf (a .e) x (neg (a .half))
+-- e with one rounding for each product and the sum that it goes into
+abbrev pub exactOf : Float → Correction → Float
+exactOf y a =
+    let n = fmaSmallProductOf (half ⊗ y) (a .r) (neg three) in
+    (a .r ⊕ n) ⊘ fmaSmallProductOf y n six ⊗ a .half
 
--- for an x from -3/2·ln 2 to -½·ln 2: c is what y = x + ln 2 lost when it was rounded, ln 2 in two parts
-unfoldable pub shiftedOf : Float → Float
-shiftedOf x =
+-- for an x up to ½·ln 2 either way: with the exact e and one rounding for e·x - x²/2. That lies between the sums with the two ends of e and with x moved
+-- by a little, and no operation changes the order: so where these two give the same, that is it.
+unfoldable pub nearZeroOf : Float → Correction → Float
+nearZeroOf x a =
+    let y = x ⊖ (a .low ⊗ (x ⊗ up) ⊖ a .half) in
+    if eq y (x ⊖ (a .high ⊗ (x ⊗ down) ⊖ a .half)) then y
+    else x ⊖ fmaSmallProductOf (exactOf x a) x (neg (a .half))
+
+-- (y - (s - y²/2))/2 - 1/2
+abbrev pub halvedOf : Float → Float → Float → Float
+halvedOf y s hy = half ⊗ (y ⊖ (s ⊖ hy)) ⊖ half
+
+-- the same at y = x + ln 2, where c is what y lost when it was rounded
+unfoldable pub shiftedOf : Float → Float → Correction → Float
+shiftedOf y c a =
+    let r = halvedOf y ((a .low ⊖ c) ⊗ (y ⊗ up) ⊖ c) (a .half) in
+    if eq r (halvedOf y ((a .high ⊖ c) ⊗ (y ⊗ down) ⊖ c) (a .half)) then r
+    else halvedOf y (fmaLargeProductOf (exactOf y a ⊖ c) y (neg c)) (a .half)
+
+-- exp(x) - 1, the limits being ½·ln 2 and 3/2·ln 2 to few digits, and ln 2 in two parts
+unfoldable pub expMinusOneOf : Float → Float
+expMinusOneOf x =
     let lo = bits 0x3dea_39ef_3579_3c76 in
     let hi = x ⊕ bits 0x3fe6_2e42_fee0_0000 in
     let y = hi ⊕ lo in
-    let c = hi ⊖ y ⊕ lo in
-    let a = correctionOf y in
-    half ⊗ (y ⊖ (fmaLargeProductOf (a .e ⊖ c) y (neg c) ⊖ a .half)) ⊖ half
-
--- exp(x) - 1, the limits being ½·ln 2 and 3/2·ln 2 to few digits
-unfoldable pub expMinusOneOf : Float → Float
-expMinusOneOf x =
-    if betweenOf (neg (bits 0x3fd6_2e43_0000_0000)) x (bits 0x3fd6_2e43_0000_0000) then nearZeroOf x
-    else if betweenOf (neg (bits 0x3ff0_a2b2_0000_0000)) x nought then shiftedOf x
+    if betweenOf (neg (bits 0x3fd6_2e43_0000_0000)) x (bits 0x3fd6_2e43_0000_0000) then nearZeroOf x (correctionOf x)
+    else if betweenOf (neg (bits 0x3ff0_a2b2_0000_0000)) x nought then shiftedOf y (hi ⊖ y ⊕ lo) (correctionOf y)
     else expOf x ⊖ one

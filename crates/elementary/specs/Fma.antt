@@ -17,8 +17,8 @@ productErrorOf a b =
     let bh = headOf b in
     lostOf (a ⊗ b) ah (a ⊖ ah) bh (b ⊖ bh)
 
--- a·b + c, where c is no smaller than the product. s is the sum and d what it lost, exactly (Dekker); where even a slightly larger d would not
--- move s, s is the answer. The factor is 1 + 10^-7.
+-- a·b + c, where c is no smaller than the product, or a multiple of its last digit. s is the sum and d what it lost, exactly (Dekker); where even a
+-- slightly larger d would not move s, s is the answer. The factor is 1 + 10^-7.
 unfoldable pub fmaSmallProductOf : Float → Float → Float → Float
 fmaSmallProductOf a b c =
     let p = a ⊗ b in

@@ -18,7 +18,7 @@ fn head(x: f64) -> f64
 }
 
 // What a product lost when it was rounded to p, its factors given in two parts each (Dekker).
-pub fn lost(p: f64, ah: f64, al: f64, bh: f64, bl: f64) -> f64
+fn lost(p: f64, ah: f64, al: f64, bh: f64, bl: f64) -> f64
     ensures { λ r. ⌜ r ≡ lostOf p ah al bh bl ⌝ }
 {
     (((ah * bh - p) + ah * bl) + al * bh) + al * bl
@@ -33,8 +33,8 @@ fn product_error(a: f64, b: f64) -> f64
     lost(a * b, ah, a - ah, bh, b - bh)
 }
 
-// a * b + c, where c outweighs the product. The product's own error counts only where c + a * b lies
-// half way between two numbers, and that is rare enough to be tested for.
+// a * b + c, where c outweighs the product or is a multiple of its last digit. The product's own
+// error counts only where c + a * b lies half way between two numbers, and that is tested for.
 pub fn fma_small_product(a: f64, b: f64, c: f64) -> f64
     ensures { λ r. ⌜ r ≡ fmaSmallProductOf a b c ⌝ }
 {

@@ -1,9 +1,11 @@
-// ln. A normal x is z * 2^k with z from 0.6875 to 1.375. With c from a table, near z, and
-// r = z / c - 1, ln x is k * ln 2 + ln c + ln(1 + r): two entries of the table and a short series.
+// ln. A normal x is m * 2^k with m from 1 to 2. With c from a table, near m, and r = m / c - 1,
+// ln x is k * ln 2 + ln c + ln(1 + r): an entry of the table and a short series. From m = 1.375 on
+// k is one more, and ln c is that of c / 2, so that it is small either way.
 ghost use mathlib.Core.Path.{_≡_};
-ghost use Prim.Native.Nat.{_<_};
+ghost use mathlib.Core.Bool.{false};
+ghost use lib.Ieee.{isNan};
 ghost use Rattle.elementary.specs.Ln.{ratioOf, normalOf, lnOf};
-use crate::fma::lost;
+use crate::fma::fma_small_product;
 use crate::ln_one_plus::ln_1p;
 use elementary_tables::LnRow;
 
@@ -12,11 +14,16 @@ const LEAST_NORMAL: f64 = 2.2250738585072014e-308;
 
 const LARGEST: f64 = 1.7976931348623157e308;
 
-// Between these, the number before 0.9375 and 1.064697265625, the terms with k and c would only
-// cancel.
-const BELOW_ONE: f64 = 0.9374999999999999;
+// From the first to the second the terms with k and c would only cancel.
+const BELOW_ONE: f64 = 0.9375;
 
 const ABOVE_ONE: f64 = 1.064697265625;
+
+// 2^52
+const TO_NORMAL: f64 = 4503599627370496.0;
+
+// The middle of the first part: 1 + 2^-8.
+const MIDDLE: f64 = 1.00390625;
 
 // ln 2 in two parts: the first has so few digits that its product with k is exact.
 const LN_2_HI: f64 = 0.6931471805598903;
@@ -34,21 +41,27 @@ const A3: f64 = 0.20000304511814496;
 
 const A4: f64 = -0.16667054827627667;
 
-// ln x: -infinity at 0, and NaN below 0.
+// ln x: -infinity at 0, and NaN below 0. Numbers below 1 come first: they are asked for most.
 pub fn ln(x: f64) -> f64
     ensures { λ r. ⌜ r ≡ lnOf x ⌝ }
 {
-    if x >= LEAST_NORMAL {
-        if x > LARGEST {
-            return x;
+    if x < BELOW_ONE {
+        if x >= LEAST_NORMAL {
+            return normal(x, 1023.0);
         }
-        if float::between(BELOW_ONE, x, ABOVE_ONE) {
+    } else {
+        if x < ABOVE_ONE {
             return ln_1p(x - 1.0);
         }
-        return normal(x, 1024.0);
+        if x <= LARGEST {
+            return normal(x, 1023.0);
+        }
+    }
+    if x > LARGEST {
+        return x;
     }
     if x > 0.0 {
-        return normal(x * 4503599627370496.0, 1076.0);
+        return normal(x * TO_NORMAL, 1075.0);
     }
     if x == 0.0 {
         return -1.0 / 0.0;
@@ -56,18 +69,18 @@ pub fn ln(x: f64) -> f64
     0.0 / 0.0
 }
 
-// ln(x * 2^(1024 - bias)) for a normal x.
+// ln(x * 2^(1023 - bias)) for a normal x.
 fn normal(x: f64, bias: f64) -> f64
+    requires { ⌜ isNan x ≡ false ⌝ }
     ensures { λ r. ⌜ r ≡ normalOf x bias ⌝ }
 {
-    if x != x {
-        return x;
-    }
-    // the exponent's field of x counts from z's own, so that v holds k + 1024 above the digits of z
-    let v = f64::to_bits(x) % 0x8000_0000_0000_0000 + 0x001a_0000_0000_0000;
-    let e = elementary_tables::ln_row(v / 0x2000_0000_0000 % 128);
-    let k = ((v / 0x10_0000_0000_0000) as u32 as f64) - bias;
-    let r = ratio(v % 0x10_0000_0000_0000 + 0x3fe6_0000_0000_0000, e);
+    let n = f64::to_bits(x);
+    // the exponent and seven digits, which choose the row; from 48 on, 1.375, the 80 carry
+    let first = n / 0x2000_0000_0000;
+    let e = elementary_tables::ln_row(first % 128);
+    let k = (((first + 80) / 128) as u32 as f64) - bias;
+    let t = f64::from_bits(n % 0x2000_0000_0000 + 0x3ff0_0000_0000_0000) - MIDDLE;
+    let r = ratio(t, e);
     let w = k * LN_2_HI + e.logarithm;
     let hi = w + r;
     let lo = k * LN_2_LO + ((w - hi) + r);
@@ -76,13 +89,10 @@ fn normal(x: f64, bias: f64) -> f64
     ((r * r2) * q + (r2 * A0 + lo)) + hi
 }
 
-// z / c - 1 with one rounding, for the z of this bit pattern.
-fn ratio(pattern: u64, e: LnRow) -> f64
-    requires { ⌜ pattern < 4611686018427387904 ⌝ }
-    ensures { λ r. ⌜ r ≡ ratioOf pattern e ⌝ }
+// m / c - 1 with one rounding, for an m that is t above the middle of its part: all but the last
+// product and sum are exact.
+fn ratio(t: f64, e: LnRow) -> f64
+    ensures { λ r. ⌜ r ≡ ratioOf t e ⌝ }
 {
-    let z = f64::from_bits(pattern);
-    let head = f64::from_bits(pattern - pattern % 0x800_0000);
-    let p = z * e.inverse;
-    (p - 1.0) + lost(p, head, z - head, e.head, e.tail)
+    fma_small_product(t, e.tail, t * e.head + e.offset)
 }

@@ -77,6 +77,6 @@ tails =
     0xbc8f_f712_8fd3_91f0 ∷ 0xbc8d_ae98_e223_747d ∷ 0x3c8e_c3bc_41aa_2008 ∷ 0x3c84_2b94_c3a9_eb32 ∷
     0x3c8a_64a9_31d1_85ee ∷ 0xbc8e_37ba_e43b_e3ed ∷ 0x3c77_893b_4d91_cd9d ∷ 0x3c53_05c1_4160_cc89 ∷ []
 
--- 2^(j/128) as a rounded head, and what the rounding left out, relative to it; from 127 on the last row
+-- 2^(j/128), rounded, as a bit pattern, and what the rounding left out, relative to it; from 127 on the last row
 unfoldable pub expRowOf : ℕ → ExpRow
-expRowOf j = record { head = bits (getD heads (min j 127) 0); tail = bits (getD tails (min j 127) 0) }
+expRowOf j = record { head = getD heads (min j 127) 0; tail = bits (getD tails (min j 127) 0) }

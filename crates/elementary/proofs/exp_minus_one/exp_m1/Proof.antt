@@ -1,4 +1,8 @@
-use Rattle.elementary.specs.ExpMinusOne.{expMinusOneOf}
+use mathlib.Core.Path.{sym, ap, _∙_}
+use mathlib.Core.Logic.{⊎-elim}
+use borrow.Author.Tests.{not-true, not-false}
+use Rattle.float.proofs.Cases.{clash}
+use Rattle.elementary.specs.ExpMinusOne.{correctionOf, nearZeroOf, expMinusOneOf}
 use borrow.Author.Needs.{needs}
 use Rattle.elementary.proofs.exp_minus_one.exp_m1.Statement.{statement}
 use Rattle.elementary.proofs.exp_minus_one.exp_m1.Tie as tie
@@ -6,39 +10,63 @@ use Rattle.elementary.proofs.exp_minus_one.exp_m1.Tie as tie
 between-requires : tie.Need-between-requires
 between-requires c κs = search needs
 
-near-zero-requires : tie.Need-near-zero-requires
-near-zero-requires c κs = search needs
-
-returns : tie.Need-returns
-unfolding expMinusOneOf
-returns c = rw (← c .before .before .between .ensures, c .before .if1 .taken) (c .near-zero .ensures)
-
 between-requires-2 : tie.Need-between-requires-2
 between-requires-2 c κs = search needs
-
-shifted-requires : tie.Need-shifted-requires
-shifted-requires c κs = search needs
-
-returns-2 : tie.Need-returns-2
-unfolding expMinusOneOf
-returns-2 c = rw (← c .before .before .before .before .between .ensures, c .before .before .before .if1 .left, ← c .before .before .between2 .ensures, c .before .if2 .taken) (c .shifted .ensures)
 
 exp-requires : tie.Need-exp-requires
 exp-requires c κs = search needs
 
+returns : tie.Need-returns
+unfolding expMinusOneOf
+returns c =
+    let b = c .before .before .before .before in
+    rw (← b .between .ensures, not-true (b .between .result) (c .before .before .before .if1 .taken), ← c .before .before .between2 .ensures, not-true (c .before .before .between2 .result) (c .before .if2 .taken), c .exp .ensures)
+
+correction-at-requires : tie.Need-correction-at-requires
+correction-at-requires c κs = search needs
+
+between-requires-3 : tie.Need-between-requires-3
+between-requires-3 c κs = search needs
+
+near-zero-requires : tie.Need-near-zero-requires
+near-zero-requires c κs = search needs
+
+returns-2 : tie.Need-returns-2
+unfolding expMinusOneOf
+returns-2 c =
+    let b = c .before .before in
+    let j = b .before .before in
+    let t = sym (b .between3 .ensures) ∙ c .before .if3 .taken in
+    ⊎-elim
+    (λ w. clash (sym (j .before .between .ensures) ∙ not-true _ (w .0 .taken)) t)
+    (λ w. rw t (c .near-zero .ensures ∙ ap (nearZeroOf (j .before .before .args .x)) (b .before .correction-at .ensures ∙ ap correctionOf (w .1))))
+    (j .if1 .came)
+
+shifted-requires : tie.Need-shifted-requires
+shifted-requires c κs = search needs
+
 returns-3 : tie.Need-returns-3
 unfolding expMinusOneOf
-returns-3 c = rw (← c .before .before .before .before .between .ensures, c .before .before .before .if1 .left, ← c .before .before .between2 .ensures, c .before .if2 .left, c .exp .ensures)
+returns-3 c =
+    let b = c .before .before in
+    let j = b .before .before in
+    let f = sym (b .between3 .ensures) ∙ c .before .if3 .left in
+    ⊎-elim
+    (λ w. rw (f, ← w .1 .ensures, not-false (w .1 .result) (w .2 .left), ← w .4, ← w .3, ← b .before .correction-at .ensures) (c .shifted .ensures))
+    (λ w. clash f (sym (j .before .between .ensures) ∙ not-false _ (w .0 .left)))
+    (j .if1 .came)
 
 pub exp-m1-spec : {M : Type 1} → statement M
 exp-m1-spec =
     tie.close
     (tie.spec
     between-requires
-    near-zero-requires
-    returns
     between-requires-2
-    shifted-requires
-    returns-2
     exp-requires
+    returns
+    correction-at-requires
+    between-requires-3
+    near-zero-requires
+    returns-2
+    shifted-requires
     returns-3)

@@ -3,15 +3,19 @@ use borrow.Author.Needs.{needs}
 use Rattle.elementary.proofs.exp_minus_one.near_zero.Statement.{statement}
 use Rattle.elementary.proofs.exp_minus_one.near_zero.Tie as tie
 
-correction-at-requires : tie.Need-correction-at-requires
-correction-at-requires c κs = search needs
+returns : tie.Need-returns
+unfolding nearZeroOf
+returns c = rw (c .if1 .taken)
+
+exact-requires : tie.Need-exact-requires
+exact-requires c κs = search needs
 
 fma-small-product-requires : tie.Need-fma-small-product-requires
 fma-small-product-requires c κs = search needs
 
-returns : tie.Need-returns
+returns-2 : tie.Need-returns-2
 unfolding nearZeroOf
-returns c = rw (← c .before .before .correction-at .ensures, c .fma-small-product .ensures)
+returns-2 c = rw (c .before .before .before .if1 .left, ← c .before .before .exact .ensures, c .fma-small-product .ensures)
 
 pub near-zero-spec : {M : Type 1} → statement M
-near-zero-spec = tie.close (tie.spec correction-at-requires fma-small-product-requires returns)
+near-zero-spec = tie.close (tie.spec returns exact-requires fma-small-product-requires returns-2)

@@ -1,11 +1,14 @@
+use Rattle.float.proofs.Order.{lt-numbers}
 use Rattle.elementary.specs.Exp.{expOf}
-use borrow.Author.Needs.{needs}
 use Rattle.elementary.proofs.exponential.exp.Statement.{statement}
 use Rattle.elementary.proofs.exponential.exp.Tie as tie
 
+near-requires : tie.Need-near-requires
+near-requires c κs = lt-numbers _ _ (c .if1 .taken) .0
+
 returns : tie.Need-returns
 unfolding expOf
-returns c = rw (c .if1 .taken)
+returns c = rw (c .before .if1 .taken) (c .near .ensures)
 
 returns-2 : tie.Need-returns-2
 unfolding expOf
@@ -13,14 +16,7 @@ returns-2 c = rw (c .before .if1 .left, c .if2 .taken)
 
 returns-3 : tie.Need-returns-3
 unfolding expOf
-returns-3 c = rw (c .before .before .if1 .left, c .before .if2 .left, c .if3 .taken)
-
-near-requires : tie.Need-near-requires
-near-requires c κs = search needs
-
-returns-4 : tie.Need-returns-4
-unfolding expOf
-returns-4 c = rw (c .before .before .before .if1 .left, c .before .before .if2 .left, c .before .if3 .left) (c .near .ensures)
+returns-3 c = rw (c .before .if1 .left, c .if2 .left)
 
 pub exp-spec : {M : Type 1} → statement M
-exp-spec = tie.close (tie.spec returns returns-2 returns-3 near-requires returns-4)
+exp-spec = tie.close (tie.spec near-requires returns returns-2 returns-3)

@@ -1,15 +1,17 @@
-use Rattle.float.proofs.Patterns.{number}
-use Rattle.elementary.specs.Exp.{from0Of, nearOf}
+use Prim.Native.Nat.{_≤_, _<_}
+use mathlib.Core.Logic.{⊎-elim}
+use native.Mathlib.Omega.{arith}
+use borrow.Author.Tests.{le-leb, lt-leb, lt-ltb, le-ltb}
+use Rattle.float.proofs.Patterns.{no-nan}
+use Rattle.elementary_tables.proofs.Heads.{head-from-1, head-below-2}
+use Rattle.elementary.specs.Exp.{nearOf}
+use Rattle.elementary.proofs.Numbers.{steps-number}
 use borrow.Author.Needs.{needs}
 use Rattle.elementary.proofs.exponential.near.Statement.{statement}
 use Rattle.elementary.proofs.exponential.near.Tie as tie
 
-returns : tie.Need-returns
-unfolding nearOf
-returns c = rw (c .if1 .taken)
-
 float-to-bits-n : tie.Need-float-to-bits-n
-float-to-bits-n c = number _ (c .if1 .left)
+float-to-bits-n c = rw (steps-number _ (c .pre)) tt
 
 exp-row-requires : tie.Need-exp-row-requires
 exp-row-requires c κs = search needs
@@ -17,33 +19,67 @@ exp-row-requires c κs = search needs
 series-requires : tie.Need-series-requires
 series-requires c κs = search needs
 
+mul-h : tie.Need-mul-h
+mul-h c = search needs
+
+add-h : tie.Need-add-h
+add-h c =
+    let e = c .before .before .before .before .exp-row in
+    let below : e .result .head < 0x4000_0000_0000_0000 = rw (e .ensures) (head-below-2 _ (omega arith)) in
+    omega arith
+
+mul-h-2 : tie.Need-mul-h-2
+mul-h-2 c = search needs
+
+sub-h : tie.Need-sub-h
+sub-h c =
+    let e = c .before .before .before .before .exp-row in
+    let from : 0x3ff0_0000_0000_0000 ≤ e .result .head = rw (e .ensures) (head-from-1 _ (omega arith)) in
+    omega arith
+
+float-from-bits-h : tie.Need-float-from-bits-h
+float-from-bits-h c =
+    let e = c .before .before .before .before .exp-row in
+    let below : e .result .head < 0x4000_0000_0000_0000 = rw (e .ensures) (head-below-2 _ (omega arith)) in
+    no-nan _ (omega arith)
+
 fma-small-product-requires : tie.Need-fma-small-product-requires
 fma-small-product-requires c κs = search needs
 
-scaled-requires : tie.Need-scaled-requires
-scaled-requires c κs = search needs
+returns : tie.Need-returns
+unfolding nearOf
+returns c =
+    let t = c .before .before .before in
+    let s = t .before .before in
+    simp (← s .before .exp-row .ensures, ← s .series .ensures, ← c .before .fma-small-product .ensures, le-leb _ _ (t .before .if1 .taken), lt-ltb _ _ (t .if2 .taken), c .if3 .taken)
+
+far-requires : tie.Need-far-requires
+far-requires c κs = rw (c .before .before .exp-row .ensures) (head-below-2 _ (omega arith))
 
 returns-2 : tie.Need-returns-2
-unfolding nearOf from0Of
+unfolding nearOf
 returns-2 c =
-    let t = c .before .before .before .before in
-    simp (t .before .if1 .left, ← t .exp-row .ensures, ← c .before .before .before .series .ensures, ← c .before .before .fma-small-product .ensures, ← c .before .scaled .ensures, c .if2 .taken)
-
-returns-3 : tie.Need-returns-3
-unfolding nearOf from0Of
-returns-3 c =
-    let t = c .before .before .before .before in
-    simp (t .before .if1 .left, ← t .exp-row .ensures, ← c .before .before .before .series .ensures, ← c .before .before .fma-small-product .ensures, ← c .before .scaled .ensures, c .if2 .left)
+    let s = c .before .before in
+    ⊎-elim
+    (λ w. simp (← s .before .exp-row .ensures, ← s .series .ensures, ← w .3 .ensures, le-leb _ _ (w .0 .taken), lt-ltb _ _ (w .1 .taken), w .4 .left) (c .far .ensures))
+    (⊎-elim
+    (λ w. simp (← s .before .exp-row .ensures, ← s .series .ensures, le-leb _ _ (w .0 .taken), le-ltb _ _ (w .1 .left)) (c .far .ensures))
+    (λ w. simp (← s .before .exp-row .ensures, ← s .series .ensures, lt-leb _ _ (w .left)) (c .far .ensures)))
+    (c .before .if1 .came)
 
 pub near-spec : {M : Type 1} → statement M
 near-spec =
     tie.close
     (tie.spec
-    returns
     float-to-bits-n
     exp-row-requires
     series-requires
+    mul-h
+    add-h
+    mul-h-2
+    sub-h
+    float-from-bits-h
     fma-small-product-requires
-    scaled-requires
-    returns-2
-    returns-3)
+    returns
+    far-requires
+    returns-2)

@@ -3,20 +3,24 @@ use borrow.Author.Needs.{needs}
 use Rattle.elementary.proofs.ln_one_plus.ln_1p.Statement.{statement}
 use Rattle.elementary.proofs.ln_one_plus.ln_1p.Tie as tie
 
-number-requires : tie.Need-number-requires
-number-requires c κs = search needs
+from-zero-requires : tie.Need-from-zero-requires
+from-zero-requires c κs = search needs
 
 returns : tie.Need-returns
 unfolding lnOnePlusOf
-returns c = rw (← c .before .before .number .ensures, c .before .if1 .taken, c .if2 .taken)
+returns c = rw (← c .before .from-zero .ensures, c .before .before .if1 .taken, c .if2 .taken)
 
 returns-2 : tie.Need-returns-2
 unfolding lnOnePlusOf
-returns-2 c = rw (← c .before .before .number .ensures, c .before .if1 .taken, c .if2 .left)
+returns-2 c = rw (← c .before .from-zero .ensures, c .before .before .if1 .taken, c .if2 .left)
+
+below-zero-requires : tie.Need-below-zero-requires
+below-zero-requires c κs = search needs
 
 returns-3 : tie.Need-returns-3
 unfolding lnOnePlusOf
-returns-3 c = rw (← c .before .number .ensures, c .if1 .left)
+returns-3 c = rw (← c .below-zero .ensures, c .before .if1 .left)
 
 pub ln-1p-spec : {M : Type 1} → statement M
-ln-1p-spec = tie.close (tie.spec number-requires returns returns-2 returns-3)
+ln-1p-spec =
+    tie.close (tie.spec from-zero-requires returns returns-2 below-zero-requires returns-3)

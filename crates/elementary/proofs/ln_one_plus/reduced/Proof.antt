@@ -1,23 +1,17 @@
+use mathlib.Core.Path.{refl}
 use native.Mathlib.Omega.{arith}
-use Rattle.float.proofs.Patterns.{number, no-nan}
+use lib.Ieee.{ofBits}
+use Rattle.float.specs.Ops.{one}
+use Rattle.float.proofs.Order.{not-nan-add}
+use Rattle.float.proofs.Patterns.{no-nan}
 use Rattle.elementary.specs.LnOnePlus.{reducedOf}
 use borrow.Author.Needs.{needs}
 use Rattle.elementary.proofs.ln_one_plus.reduced.Statement.{statement}
 use Rattle.elementary.proofs.ln_one_plus.reduced.Tie as tie
 
-between-requires : tie.Need-between-requires
-between-requires c κs = search needs
-
-returns : tie.Need-returns
-unfolding reducedOf
-returns c = rw (← c .before .between .ensures, c .if1 .taken)
-
-returns-2 : tie.Need-returns-2
-unfolding reducedOf
-returns-2 c = rw (← c .before .before .between .ensures, c .before .if1 .left, c .if2 .taken)
-
 float-to-bits-v : tie.Need-float-to-bits-v
-float-to-bits-v c = number _ (c .if2 .left)
+unfolding ofBits
+float-to-bits-v c = rw (not-nan-add _ one tt (c .pre)) tt
 
 add-v : tie.Need-add-v
 add-v c = search needs
@@ -28,27 +22,17 @@ add-f c = search needs
 float-from-bits-f : tie.Need-float-from-bits-f
 float-from-bits-f c = no-nan _ (omega arith)
 
-cast-t15 : tie.Need-cast-t15
-cast-t15 c = search needs
+cast-t13 : tie.Need-cast-t13
+cast-t13 c = search needs
 
-int-to-float-t9 : tie.Need-int-to-float-t9
-int-to-float-t9 c = search needs
+int-to-float-t10 : tie.Need-int-to-float-t10
+int-to-float-t10 c = search needs
 
-returns-3 : tie.Need-returns-3
+returns : tie.Need-returns
 unfolding reducedOf
-returns-3 c = rw (← c .before .before .before .between .ensures, c .before .before .if1 .left, c .before .if2 .left)
+returns c = refl
 
 pub reduced-spec : {M : Type 1} → statement M
 reduced-spec =
     tie.close
-    (tie.spec
-    between-requires
-    returns
-    returns-2
-    float-to-bits-v
-    add-v
-    add-f
-    float-from-bits-f
-    cast-t15
-    int-to-float-t9
-    returns-3)
+    (tie.spec float-to-bits-v add-v add-f float-from-bits-f cast-t13 int-to-float-t10 returns)

@@ -1,48 +1,55 @@
-use Rattle.float.proofs.Patterns.{number}
+use Prim.Native.Nat.{_^_, _<_}
+use native.Mathlib.Omega.{arith}
+use lib.Ieee.{binary64, toBits}
+use lib.Ieee.Bits.{toBits-lt}
+use Rattle.float.proofs.Patterns.{no-nan}
 use Rattle.elementary.specs.Ln.{normalOf}
 use borrow.Author.Needs.{needs}
 use Rattle.elementary.proofs.logarithm.normal.Statement.{statement}
 use Rattle.elementary.proofs.logarithm.normal.Tie as tie
 
-returns : tie.Need-returns
-unfolding normalOf
-returns c = rw (c .if1 .taken)
-
-float-to-bits-v : tie.Need-float-to-bits-v
-float-to-bits-v c = number _ (c .if1 .left)
-
-add-v : tie.Need-add-v
-add-v c = search needs
+float-to-bits-n : tie.Need-float-to-bits-n
+float-to-bits-n c = rw (c .pre) tt
 
 ln-row-requires : tie.Need-ln-row-requires
 ln-row-requires c κs = search needs
 
+add-k : tie.Need-add-k
+add-k c =
+    let n : toBits binary64 (c .before .args .x) < 2 ^ 64 = toBits-lt binary64 _ (rw (c .before .good .0 .1) tt) in
+    omega arith
+
 cast-k : tie.Need-cast-k
-cast-k c = search needs
+cast-k c =
+    let n : toBits binary64 (c .before .args .x) < 2 ^ 64 = toBits-lt binary64 _ (rw (c .before .good .0 .1) tt) in
+    omega arith
 
 int-to-float-k : tie.Need-int-to-float-k
 int-to-float-k c = search needs
 
-add-ratio : tie.Need-add-ratio
-add-ratio c = search needs
+add-t : tie.Need-add-t
+add-t c = search needs
+
+float-from-bits-t : tie.Need-float-from-bits-t
+float-from-bits-t c = no-nan _ (omega arith)
 
 ratio-requires : tie.Need-ratio-requires
 ratio-requires c κs = search needs
 
-returns-2 : tie.Need-returns-2
+returns : tie.Need-returns
 unfolding normalOf
-returns-2 c = simp (c .before .before .before .before .if1 .left, ← c .before .before .before .ln-row .ensures, ← c .before .ratio .ensures)
+returns c = simp (← c .before .before .before .ln-row .ensures, ← c .before .ratio .ensures)
 
 pub normal-spec : {M : Type 1} → statement M
 normal-spec =
     tie.close
     (tie.spec
-    returns
-    float-to-bits-v
-    add-v
+    float-to-bits-n
     ln-row-requires
+    add-k
     cast-k
     int-to-float-k
-    add-ratio
+    add-t
+    float-from-bits-t
     ratio-requires
-    returns-2)
+    returns)
