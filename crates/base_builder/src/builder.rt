@@ -160,6 +160,15 @@ pub fn add_with(
     add_entry(builder, base, correct[q], error_per_alt[q])
 }
 
+// The same builder, field by field. A copy of the whole would take the bytes between its fields along,
+// and a loop over observations would wait for them at each turn.
+fn kept(builder: ConsensusBaseBuilder) -> ConsensusBaseBuilder
+    ensures { λ r. ⌜ r ≡ builder ⌝ }
+{
+    let rule = builder.tie_rule;
+    builder.with_tie_rule(rule)
+}
+
 // One observation, with its two entries of the tables.
 pub fn add_entry(
     builder: ConsensusBaseBuilder,
@@ -174,14 +183,14 @@ pub fn add_entry(
     let k = lane_of(base);
     if k == NO_LANE {
         return Addition {
-            builder,
+            builder: kept(builder),
             answer: Answer::Accepted,
         };
     }
     let observations = builder.observations;
     if 4294967295 <= total(observations) {
         return Addition {
-            builder,
+            builder: kept(builder),
             answer: Answer::Refused,
         };
     }

@@ -1,12 +1,17 @@
 // The call of a position: a shortcut where one replies, and else the long calculation.
 ghost use mathlib.Core.Path.{_≡_};
 ghost use Rattle.lane_calls.specs.Calls.{repliedOr};
-ghost use Rattle.unanimous_shortcut.specs.Unanimous.{tablesOf};
-ghost use Rattle.base_builder.specs.Calls.{unanimousOf, multibaseOf, callFullOf, longWay, callOf};
+ghost use Rattle.lane_calls.specs.Full.{fullCall};
+ghost use Rattle.lane_calls.specs.Multibase.{multibaseReply};
+ghost use Rattle.unanimous_shortcut.specs.Unanimous.{tablesOf, unanimousReply};
+ghost use Rattle.base_builder.specs.Calls.{unanimousOf, multibaseOf, callFullOf, callOf};
 use crate::builder::ConsensusBaseBuilder;
 use gap_tables::UnanimousGapTables;
 use lane_calls::Call;
 use lane_calls::Reply;
+use phred::LogProbability;
+use tie_rules::NO_LANE;
+use tie_rules::TieRule;
 
 impl ConsensusBaseBuilder {
     // The shortcut where one base alone was observed. The tables are copied: a loop takes the form
@@ -73,13 +78,27 @@ pub fn try_unanimous_fast_path_with(
     )
 }
 
-// Where the first shortcut does not reply.
-fn long_way(builder: ConsensusBaseBuilder) -> Call
-    ensures { λ r. ⌜ r ≡ longWay builder ⌝ }
+// The base and its quality of what was counted. Where one base alone was observed the first shortcut is
+// asked, and what it defers goes the way of the others. The parts of a builder, and not the builder:
+// what is handed on stays small.
+fn call_counted(
+    likelihoods: [f64; 4],
+    observations: [u32; 4],
+    rule: TieRule,
+    pre: LogProbability,
+    thresholds: &[f64; 94],
+    cerr_min: &[f64; 94],
+    cap: usize,
+) -> Call
+    ensures { λ r. ⌜ r ≡ repliedOr (unanimousReply (tablesOf (now (thresholds .entry)) (now («cerr_min» .entry)) cap) likelihoods observations rule) (repliedOr (multibaseReply (pre .0) likelihoods rule) (fullCall (pre .0) likelihoods rule)) ⌝ }
 {
-    match builder.try_multibase_fast_path() {
+    let i = unanimous_shortcut::sole_lane(observations);
+    if NO_LANE <= i {
+        return lane_calls::call_lanes(likelihoods, rule, pre);
+    }
+    match unanimous_shortcut::reply_for_lane(likelihoods, i, rule, thresholds, cerr_min, cap) {
         Reply::Replied(short) => short,
-        Reply::Deferred => builder.call_full(),
+        Reply::Deferred => lane_calls::call_lanes(likelihoods, rule, pre),
     }
 }
 
@@ -95,8 +114,9 @@ pub fn call_with(
     if builder.contributions() == 0 {
         return lane_calls::no_call();
     }
-    match try_unanimous_fast_path_with(builder, thresholds, cerr_min, cap) {
-        Reply::Replied(short) => short,
-        Reply::Deferred => long_way(builder),
-    }
+    let lanes = builder.likelihoods;
+    let counts = builder.observations;
+    let rule = builder.tie_rule;
+    let pre = builder.ln_error_pre_umi;
+    call_counted(lanes, counts, rule, pre, thresholds, cerr_min, cap)
 }

@@ -1,7 +1,6 @@
 pub mod Run
 pub mod Lanes
 pub mod Scan
-pub mod Gap
 pub mod Named
 pub mod OwnTables
 pub mod Replies
@@ -13,4 +12,3 @@ pub mod AfterReset
 pub mod Starred
 pub mod Corners
 pub mod Refusals
-pub mod AddedTests

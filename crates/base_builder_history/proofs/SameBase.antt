@@ -26,7 +26,7 @@ use Rattle.base_builder_history.specs.Demand3.{Agrees}
 use Rattle.base_builder_history.specs.Laws.{ruled}
 use Rattle.base_builder_history.proofs.Run.{Holds}
 use Rattle.base_builder_history.proofs.Lanes.{alike}
-use Rattle.base_builder_history.proofs.Gap.{gap-lt}
+use Rattle.float.proofs.Gap.{gap-lt}
 use Rattle.base_builder_history.proofs.Named.{other, named}
 use Rattle.base_builder_history.proofs.OwnTables.{Names}
 use Rattle.base_builder_history.proofs.Replies.{asked, unanimous-by, multibase-by, full-base}

@@ -5,5 +5,7 @@ pub mod Patterns
 pub mod Finite
 pub mod Floor
 pub mod Sums
+pub mod Turned
+pub mod Gap
 pub mod Claims
 pub mod Examples

@@ -84,7 +84,7 @@ units-neg : (f : Format) (q k : ℕ) → units f true q k ≡ neg (units f false
 unfolding units neg
 units-neg f q k = rw odd-neg (cond-neg (ltb (q * 2 ^ k) (2 ^ (low f + suc (emax f)))) (odd (suc (prec f)) false q k (low f)) (inf false))
 
-round-neg : (f : Format) (a c : ℕ) → round f true a c ≡ neg (round f false a c)
+pub round-neg : (f : Format) (a c : ℕ) → round f true a c ≡ neg (round f false a c)
 round-neg f a c = rw (round-is f true a c, round-is f false a c) (units-neg f _ _)
 
 -- ---- the order of the rounded a / c and b / c

@@ -1,3 +1,4 @@
 pub mod Calls
 pub mod Multibase
 pub mod Full
+pub mod Lane

@@ -9,10 +9,10 @@ use tie_rules::NO_LANE;
 use tie_rules::TieRule;
 
 // The quality of a lane of the value m.
-fn full_quality(likelihoods: [f64; 4], m: f64, pre: LogProbability) -> u8
+pub fn full_quality(likelihoods: [f64; 4], m: f64, pre: LogProbability) -> u8
     ensures { λ r. ⌜ r ≡ fullQuality (pre .0) likelihoods m ⌝ }
 {
-    let ln_sum = phred::ln_sum_exp_array(&likelihoods);
+    let ln_sum = phred::ln_sum_exp_lanes(likelihoods);
     let ln_posterior = phred::ln_normalize(LogProbability(m), ln_sum);
     let ln_consensus_error = phred::ln_not(ln_posterior);
     phred::ln_prob_to_phred(phred::ln_error_prob_two_trials(pre, ln_consensus_error)).0

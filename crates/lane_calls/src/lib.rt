@@ -2,6 +2,7 @@
 // the quality, and the long calculation, which works it out.
 mod call;
 mod full;
+mod lanes;
 mod margin;
 mod multibase;
 
@@ -10,5 +11,6 @@ pub use call::Reply;
 pub use call::called;
 pub use call::no_call;
 pub use full::call_full;
+pub use lanes::call_lanes;
 pub use margin::unanimous_margin;
 pub use multibase::try_multibase_fast_path;

@@ -1,7 +1,12 @@
 // The shortcut where two or more bases were observed.
 ghost use mathlib.Core.Path.{_≡_};
-ghost use Prim.Native.Nat.{_<_};
-ghost use Rattle.lane_calls.specs.Multibase.{restBelow, magnitudeBelow, finalError, deltaOf, stableReply, restReply, multibaseReply};
+ghost use Rattle.float.specs.Ops.{_⊖_, _⊗_, _⊘_, bits};
+ghost use Rattle.float.specs.Methods.{maxOf};
+ghost use Rattle.elementary.specs.Ln.{lnOf};
+ghost use Rattle.phred.specs.Phred.{lnErrorProbTwoTrials};
+ghost use Rattle.lane_calls.specs.Calls.{headroom};
+ghost use Rattle.lane_calls.specs.Lane.{replyOfLane};
+ghost use Rattle.lane_calls.specs.Multibase.{restBelow, magnitudeBelow, stableReply, restReply, multibaseReply};
 use crate::call::Reply;
 use crate::call::called;
 use crate::margin::UNANIMOUS_MARGIN_HEADROOM;
@@ -41,22 +46,19 @@ fn magnitude(likelihoods: [f64; 4], m: f64) -> f64
     largest
 }
 
-fn final_error(pre: LogProbability, r: f64) -> LogProbability
-    ensures { λ e. ⌜ e .0 ≡ finalError (pre .0) r ⌝ }
+// The final error's logarithm, where p is ln(1 + r).
+fn final_error(pre: LogProbability, r: f64, p: f64) -> LogProbability
+    ensures { λ e. ⌜ e .0 ≡ lnErrorProbTwoTrials (pre .0) (lnOf r ⊖ p) ⌝ }
 {
-    phred::ln_error_prob_two_trials(
-        pre,
-        LogProbability(elementary::ln(r) - elementary::ln_1p(r)),
-    )
+    phred::ln_error_prob_two_trials(pre, LogProbability(elementary::ln(r) - p))
 }
 
 // By how much the long calculation may differ: its rounding at this magnitude, divided by the distance
-// of the base's probability from 1, as the complement's logarithm magnifies it.
-fn delta(r: f64, magnitude: f64) -> f64
-    ensures { λ d. ⌜ d ≡ deltaOf r magnitude ⌝ }
+// of the base's probability from 1, as the complement's logarithm magnifies it: p.
+fn delta(p: f64, magnitude: f64) -> f64
+    ensures { λ d. ⌜ d ≡ headroom ⊗ magnitude ⊘ maxOf p (bits 0x0010_0000_0000_0000) ⌝ }
 {
-    UNANIMOUS_MARGIN_HEADROOM * UNANIMOUS_UNIT_ROUNDOFF * magnitude
-        / float::max(elementary::ln_1p(r), MIN_POSITIVE)
+    UNANIMOUS_MARGIN_HEADROOM * UNANIMOUS_UNIT_ROUNDOFF * magnitude / float::max(p, MIN_POSITIVE)
 }
 
 // The quality of the error, where it is the same at delta below and above.
@@ -72,16 +74,28 @@ fn stable_reply(i: usize, error: f64, delta: f64) -> Reply
     Reply::Deferred
 }
 
-// What the lanes say of lane i, of the value m.
+// What the lanes say of lane i, of the value m. ln(1 + r) is worked out once for both its uses.
 fn rest_reply(pre: LogProbability, likelihoods: [f64; 4], i: usize, m: f64) -> Reply
     ensures { λ r. ⌜ r ≡ restReply (pre .0) likelihoods i m ⌝ }
 {
     let r = rest(likelihoods, i, m);
+    let p = elementary::ln_1p(r);
     stable_reply(
         i,
-        final_error(pre, r).0,
-        delta(r, magnitude(likelihoods, m)),
+        final_error(pre, r, p).0,
+        delta(p, magnitude(likelihoods, m)),
     )
+}
+
+// The shortcut for the lane that the rule names. Of its other tests none can fail there: no lane is
+// above that one, and none ties with it.
+pub fn reply_of_lane(pre: LogProbability, likelihoods: [f64; 4], i: usize, m: f64) -> Reply
+    ensures { λ r. ⌜ r ≡ replyOfLane (pre .0) likelihoods i m ⌝ }
+{
+    if float::is_finite(m) {
+        return rest_reply(pre, likelihoods, i, m);
+    }
+    Reply::Deferred
 }
 
 // The shortcut, on four lanes.
@@ -92,15 +106,5 @@ pub fn try_multibase_fast_path(likelihoods: [f64; 4], rule: TieRule, pre: LogPro
     if NO_LANE <= i {
         return Reply::Deferred;
     }
-    let m = likelihoods[i];
-    if !float::is_finite(m) {
-        return Reply::Deferred;
-    }
-    if !tie_rules::untied(rule, likelihoods, i, m) {
-        return Reply::Deferred;
-    }
-    if !tie_rules::none_above(likelihoods, m) {
-        return Reply::Deferred;
-    }
-    rest_reply(pre, likelihoods, i, m)
+    reply_of_lane(pre, likelihoods, i, likelihoods[i])
 }

@@ -4,3 +4,4 @@ pub mod Infinity
 pub mod Corners
 pub mod ShortWay
 pub mod Levels
+pub mod FourLanes

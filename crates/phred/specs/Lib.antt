@@ -1,3 +1,4 @@
 pub mod Phred
 pub mod Corners
 pub mod Start
+pub mod FourLanes

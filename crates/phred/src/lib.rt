@@ -6,6 +6,10 @@ ghost use Prim.Native.Nat.{_<_};
 ghost use lib.ListN.{length};
 ghost use Rattle.phred.specs.Phred.{phredToLnErrorProb, phredToLnCorrectProb, held, lnProbToPhred, log1pexpOf, lnOneMinusExp, lnAMinusB, twoTrials, lnErrorProbTwoTrials, lnSumExp, allLnZero, lowerOf, startLane, sums, sumFrom, lnSumExpArray, lnNormalize, lnNot};
 
+mod four_lanes;
+
+pub use four_lanes::ln_sum_exp_lanes;
+
 // ln 10 and ln 2
 const LN_10: f64 = 2.302585092994046;
 
@@ -136,12 +140,17 @@ pub fn ln_a_minus_b(a: f64, b: f64) -> f64
 pub fn ln_error_prob_two_trials(ln_p1: LogProbability, ln_p2: LogProbability) -> LogProbability
     ensures { λ r. ⌜ r .0 ≡ lnErrorProbTwoTrials («ln_p1» .0) («ln_p2» .0) ⌝ }
 {
-    let p = ln_p1.0;
-    let q = ln_p2.0;
+    LogProbability(in_either_trial(ln_p1.0, ln_p2.0))
+}
+
+// The same on plain numbers: a struct that is returned goes through memory.
+fn in_either_trial(p: f64, q: f64) -> f64
+    ensures { λ r. ⌜ r ≡ lnErrorProbTwoTrials p q ⌝ }
+{
     if p < q {
-        return LogProbability(two_trials(q, p));
+        return two_trials(q, p);
     }
-    LogProbability(two_trials(p, q))
+    two_trials(p, q)
 }
 
 // The same, the larger logarithm first. Where it is 6 or more above the other, it is the answer.
@@ -151,7 +160,7 @@ fn two_trials(larger: f64, smaller: f64) -> f64
     if larger - smaller >= 6.0 {
         return larger;
     }
-    let term1 = ln_sum_exp(LogProbability(larger), LogProbability(smaller)).0;
+    let term1 = sum_of_two(larger, smaller);
     let term2 = LN_FOUR_THIRDS + larger + smaller;
     ln_a_minus_b(term1, term2)
 }
@@ -160,21 +169,26 @@ fn two_trials(larger: f64, smaller: f64) -> f64
 pub fn ln_sum_exp(ln_a: LogProbability, ln_b: LogProbability) -> LogProbability
     ensures { λ r. ⌜ r .0 ≡ lnSumExp («ln_a» .0) («ln_b» .0) ⌝ }
 {
-    let a = ln_a.0;
-    let b = ln_b.0;
+    LogProbability(sum_of_two(ln_a.0, ln_b.0))
+}
+
+// The same on plain numbers.
+fn sum_of_two(a: f64, b: f64) -> f64
+    ensures { λ r. ⌜ r ≡ lnSumExp a b ⌝ }
+{
     if a == -1.0 / 0.0 {
-        return LogProbability(b);
+        return b;
     }
     if b == -1.0 / 0.0 {
-        return LogProbability(a);
+        return a;
     }
     if a == b {
-        return LogProbability(a + LOG1PEXP_ZERO);
+        return a + LOG1PEXP_ZERO;
     }
     if b < a {
-        return LogProbability(b + log1pexp(a - b));
+        return b + log1pexp(a - b);
     }
-    LogProbability(a + log1pexp(b - a))
+    a + log1pexp(b - a)
 }
 
 // The logarithm of the sum of all exponentials: from the lowest lane on, the others folded into it
@@ -248,7 +262,7 @@ fn sum(first: f64, values: &[f64]) -> f64
     let mut total = first;
     let mut i = 0;
     while i < values.len() {
-        total = ln_sum_exp(LogProbability(total), LogProbability(values[i])).0;
+        total = sum_of_two(total, values[i]);
         i += 1;
     }
     total

@@ -1,1 +1,4 @@
 pub mod Lanes
+pub mod Stands
+pub mod Leading
+pub mod Clear

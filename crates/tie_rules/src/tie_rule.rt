@@ -1,14 +1,15 @@
 // How a near-tie between the greatest likelihoods is resolved: the lane of the maximum, or none.
 ghost use mathlib.Core.Path.{_≡_};
 ghost use Prim.Native.Nat.{_<_};
-ghost use mathlib.Core.Bool.{not, _||_};
+ghost use mathlib.Core.Bool.{true, not, _||_};
 ghost use lib.Dec.{eqb};
 ghost use Rattle.tie_rules.specs.declared.tie_rule.TieRule.the-variants.{FgbioCompat};
-ghost use Rattle.tie_rules.specs.Ties.{ruleOf, fgbioTie, nearPatterns, ulpTie, fgbioTested, tiesWith, untied as untiedOf, noneAbove, fgbioStep, ulpStep, scan, unseen, lowest, fgbioUniqueMaxIndex, uniqueMaxIndex, notMinusInfinity, uniqueMaxIndexWith};
+ghost use Rattle.tie_rules.specs.Ties.{ruleOf, fgbioTie, nearPatterns, ulpTie, fgbioTested, tiesWith, untied as untiedOf, noneAbove, fgbioStep, ulpStep, scan, unseen, lowest, fgbioUniqueMaxIndex, uniqueMaxIndex, uniqueMaxIndexWith};
 use crate::lane::NO_LANE;
+use crate::lead::fgbio_lead;
 
 // 2^-52
-const FGBIO_TIE_EPSILON: f64 = 2.220446049250313e-16;
+pub const FGBIO_TIE_EPSILON: f64 = 2.220446049250313e-16;
 
 pub enum TieRule {
     // A tie is a separation of at most 4 units in the last place.
@@ -184,8 +185,8 @@ fn apart(rule: TieRule, i: usize, m: f64, j: usize, x: f64) -> bool
     !ties_with(rule, i, m, j, x)
 }
 
-// Whether no lane but i, of the value m, ties with it.
-pub fn untied(rule: TieRule, likelihoods: [f64; 4], i: usize, m: f64) -> bool
+// Whether no lane but i, of the value m, ties with it: lane by lane.
+fn none_ties(rule: TieRule, likelihoods: [f64; 4], i: usize, m: f64) -> bool
     ensures { λ r. ⌜ r ≡ untiedOf rule likelihoods i m ⌝ }
 {
     let mut j = 0;
@@ -196,6 +197,42 @@ pub fn untied(rule: TieRule, likelihoods: [f64; 4], i: usize, m: f64) -> bool
         j += 1;
     }
     true
+}
+
+// Whether the value m is more than 2^-52 above every lane but i. Then none ties with it by fgbio's rule,
+// whichever of the two comes first.
+fn clears_others(likelihoods: [f64; 4], i: usize, m: f64) -> bool
+    requires { ⌜ i < 4 ⌝ }
+    ensures { λ r. ⌜ (r ≡ true → untiedOf FgbioCompat likelihoods i m ≡ true) ⌝ }
+{
+    if FGBIO_TIE_EPSILON < m - likelihoods[(i + 1) % 4] {
+        if FGBIO_TIE_EPSILON < m - likelihoods[(i + 2) % 4] {
+            return FGBIO_TIE_EPSILON < m - likelihoods[(i + 3) % 4];
+        }
+    }
+    false
+}
+
+// The same by fgbio's rule, with the likely answer first.
+fn fgbio_untied(likelihoods: [f64; 4], i: usize, m: f64) -> bool
+    ensures { λ r. ⌜ r ≡ untiedOf FgbioCompat likelihoods i m ⌝ }
+{
+    if i < 4 {
+        if clears_others(likelihoods, i, m) {
+            return true;
+        }
+    }
+    none_ties(TieRule::FgbioCompat, likelihoods, i, m)
+}
+
+// Whether no lane but i, of the value m, ties with it.
+pub fn untied(rule: TieRule, likelihoods: [f64; 4], i: usize, m: f64) -> bool
+    ensures { λ r. ⌜ r ≡ untiedOf rule likelihoods i m ⌝ }
+{
+    match rule {
+        TieRule::UlpRelative => none_ties(TieRule::UlpRelative, likelihoods, i, m),
+        TieRule::FgbioCompat => fgbio_untied(likelihoods, i, m),
+    }
 }
 
 // Whether no lane is above the value m.
@@ -227,7 +264,7 @@ pub fn unique_max_index(likelihoods: [f64; 4]) -> usize
     if !float::is_finite(run.best) {
         return NO_LANE;
     }
-    if untied(TieRule::UlpRelative, likelihoods, run.at, run.best) {
+    if none_ties(TieRule::UlpRelative, likelihoods, run.at, run.best) {
         return run.at;
     }
     NO_LANE
@@ -239,21 +276,6 @@ pub fn unique_max_index_with(likelihoods: [f64; 4], rule: TieRule) -> usize
 {
     match rule {
         TieRule::UlpRelative => unique_max_index(likelihoods),
-        TieRule::FgbioCompat => not_minus_infinity(
-            likelihoods,
-            fgbio_unique_max_index(likelihoods),
-        ),
+        TieRule::FgbioCompat => fgbio_lead(likelihoods),
     }
-}
-
-// A winning -infinity is no call.
-fn not_minus_infinity(likelihoods: [f64; 4], i: usize) -> usize
-    ensures { λ r. ⌜ r ≡ notMinusInfinity likelihoods i ⌝ }
-{
-    if i < 4 {
-        if likelihoods[i] == -1.0 / 0.0 {
-            return NO_LANE;
-        }
-    }
-    i
 }

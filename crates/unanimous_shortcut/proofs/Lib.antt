@@ -1,1 +1,2 @@
 pub mod PartitionPoint
+pub mod Sole

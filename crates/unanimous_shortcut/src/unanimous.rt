@@ -1,8 +1,9 @@
 // The shortcut where one base alone was observed.
 ghost use mathlib.Core.Path.{_≡_};
-ghost use Prim.Native.Nat.{_≤_, _<_};
+ghost use Prim.Native.Nat.{_≤_};
 ghost use Rattle.lane_calls.specs.Calls.{outside as outsideOf};
-ghost use Rattle.unanimous_shortcut.specs.Unanimous.{firstSeen, soleLane, leads as leadsOf, tablesOf, capReply, bracketReply, gapReply, unanimousReply};
+ghost use Rattle.unanimous_shortcut.specs.Sole.{seenOf, replyForLane};
+ghost use Rattle.unanimous_shortcut.specs.Unanimous.{soleLane, leads as leadsOf, tablesOf, capReply, bracketReply, gapReply, unanimousReply};
 use crate::search::partition_point;
 use lane_calls::Reply;
 use lane_calls::called;
@@ -17,40 +18,29 @@ const EPSILON: f64 = 2.220446049250313e-16;
 // ln 2
 const LN_2: f64 = 0.6931471805599453;
 
-// The first lane that was observed, or NO_LANE.
-fn first_seen(observations: [u32; 4]) -> usize
-    ensures { λ r. ⌜ r ≡ firstSeen observations ⌝ }
+// 1 where a base was observed.
+fn seen(n: u32) -> usize
+    ensures seen { λ r. ⌜ r ≡ seenOf n ⌝ }
+    ensures held { λ r. ⌜ r ≤ 1 ⌝ }
 {
-    if 0 < observations[0] {
-        return 0;
-    }
-    if 0 < observations[1] {
+    if 0 < n {
         return 1;
     }
-    if 0 < observations[2] {
-        return 2;
-    }
-    if 0 < observations[3] {
-        return 3;
-    }
-    NO_LANE
+    0
 }
 
-// The lane that alone was observed, or NO_LANE.
-fn sole_lane(observations: [u32; 4]) -> usize
+// The lane that alone was observed, or NO_LANE. By sums: no branch hangs on which lane it is.
+pub fn sole_lane(observations: [u32; 4]) -> usize
     ensures { λ r. ⌜ r ≡ soleLane observations ⌝ }
 {
-    let i = first_seen(observations);
-    let mut j = 0;
-    while j < 4 {
-        if i != j {
-            if observations[j] != 0 {
-                return NO_LANE;
-            }
-        }
-        j += 1;
+    let a = seen(observations[0]);
+    let c = seen(observations[1]);
+    let g = seen(observations[2]);
+    let t = seen(observations[3]);
+    if a + c + g + t == 1 {
+        return c + 2 * g + 3 * t;
     }
-    i
+    NO_LANE
 }
 
 // Whether the winner leads the loser by a finite gap above 2^-52.
@@ -156,18 +146,17 @@ fn gap_reply(
     bracket_reply(thresholds, cerr_min, cap, i, winner_ll, loser_ll, p)
 }
 
-// The shortcut, on four lanes with their counts.
-pub fn try_unanimous_fast_path(
+// The shortcut where lane i alone was observed.
+pub fn reply_for_lane(
     likelihoods: [f64; 4],
-    observations: [u32; 4],
+    i: usize,
     rule: TieRule,
     thresholds: &[f64; 94],
     cerr_min: &[f64; 94],
     cap: usize,
 ) -> Reply
-    ensures { λ r. ⌜ r ≡ unanimousReply (tablesOf (now (thresholds .entry)) (now («cerr_min» .entry)) cap) likelihoods observations rule ⌝ }
+    ensures { λ r. ⌜ r ≡ replyForLane (tablesOf (now (thresholds .entry)) (now («cerr_min» .entry)) cap) likelihoods i rule ⌝ }
 {
-    let i = sole_lane(observations);
     if NO_LANE <= i {
         return Reply::Deferred;
     }
@@ -183,4 +172,19 @@ pub fn try_unanimous_fast_path(
         return Reply::Deferred;
     }
     gap_reply(thresholds, cerr_min, cap, i, winner_ll, loser_ll)
+}
+
+// The shortcut, on four lanes with their counts.
+pub fn try_unanimous_fast_path(
+    likelihoods: [f64; 4],
+    observations: [u32; 4],
+    rule: TieRule,
+    thresholds: &[f64; 94],
+    cerr_min: &[f64; 94],
+    cap: usize,
+) -> Reply
+    ensures { λ r. ⌜ r ≡ unanimousReply (tablesOf (now (thresholds .entry)) (now («cerr_min» .entry)) cap) likelihoods observations rule ⌝ }
+{
+    let i = sole_lane(observations);
+    reply_for_lane(likelihoods, i, rule, thresholds, cerr_min, cap)
 }

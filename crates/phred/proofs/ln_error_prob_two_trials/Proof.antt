@@ -1,23 +1,13 @@
--- `ln_error_prob_two_trials`: each way through the code is a way of the definition. Assumes nothing.
-use Rattle.phred.specs.Phred.{lnErrorProbTwoTrials}
+-- `ln_error_prob_two_trials`: that of the two numbers. Assumes nothing.
 use borrow.Author.Needs.{needs}
 use Rattle.phred.proofs.ln_error_prob_two_trials.Statement.{statement}
 use Rattle.phred.proofs.ln_error_prob_two_trials.Tie as tie
 
-two-trials-requires : tie.Need-two-trials-requires
-two-trials-requires c κs = search needs
+in-either-trial-requires : tie.Need-in-either-trial-requires
+in-either-trial-requires c κs = search needs
 
 returns : tie.Need-returns
-unfolding lnErrorProbTwoTrials
-returns c = rw (c .before .if1 .taken) (c .two-trials .ensures)
-
-two-trials-requires-2 : tie.Need-two-trials-requires-2
-two-trials-requires-2 c κs = search needs
-
-returns-2 : tie.Need-returns-2
-unfolding lnErrorProbTwoTrials
-returns-2 c = rw (c .before .if1 .left) (c .two-trials2 .ensures)
+returns c = c .in-either-trial .ensures
 
 pub ln-error-prob-two-trials-spec : {M : Type 1} → statement M
-ln-error-prob-two-trials-spec =
-    tie.close (tie.spec two-trials-requires returns two-trials-requires-2 returns-2)
+ln-error-prob-two-trials-spec = tie.close (tie.spec in-either-trial-requires returns)

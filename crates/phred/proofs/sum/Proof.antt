@@ -18,14 +18,14 @@ abbrev μ-loop : tie.MeasureT-loop
 loop-holds : tie.Need-loop-holds Inv-loop μ-loop
 loop-holds c = (omega arith, refl)
 
-mul-t5 : tie.Need-mul-t5 Inv-loop μ-loop
-mul-t5 c = search needs
+mul-sum-of-two : tie.Need-mul-sum-of-two Inv-loop μ-loop
+mul-sum-of-two c = search needs
 
-shared-slice-read-t10 : tie.Need-shared-slice-read-t10 Inv-loop μ-loop
-shared-slice-read-t10 c = search needs
+shared-slice-read-sum-of-two : tie.Need-shared-slice-read-sum-of-two Inv-loop μ-loop
+shared-slice-read-sum-of-two c = search needs
 
-ln-sum-exp-requires : tie.Need-ln-sum-exp-requires Inv-loop μ-loop
-ln-sum-exp-requires c κs = search needs
+sum-of-two-requires : tie.Need-sum-of-two-requires Inv-loop μ-loop
+sum-of-two-requires c κs = search needs
 
 add-i : tie.Need-add-i Inv-loop μ-loop
 add-i c = omega arith
@@ -36,7 +36,7 @@ loop-less c = omega arith
 loop-again : tie.Need-loop-again Inv-loop μ-loop
 loop-again c =
     let l = c .before .before .before .loop in
-    (omega arith, rw (c .ln-sum-exp .ensures) (sym (sums-more _ (l .i) (l .total) (c .before .before .loop-test .taken)) ∙ l .inv .1))
+    (omega arith, rw (c .sum-of-two .ensures) (sym (sums-more _ (l .i) (l .total) (c .before .before .loop-test .taken)) ∙ l .inv .1))
 
 returns : tie.Need-returns Inv-loop μ-loop
 returns c = sym (sums-done _ (c .before .loop .i) (c .before .loop .total) (c .loop-test .left)) ∙ c .before .loop .inv .1
@@ -48,9 +48,9 @@ sum-spec =
     Inv-loop
     μ-loop
     loop-holds
-    mul-t5
-    shared-slice-read-t10
-    ln-sum-exp-requires
+    mul-sum-of-two
+    shared-slice-read-sum-of-two
+    sum-of-two-requires
     add-i
     loop-less
     loop-again

@@ -4,11 +4,8 @@ use borrow.Author.Needs.{needs}
 use Rattle.lane_calls.proofs.full.full_quality.Statement.{statement}
 use Rattle.lane_calls.proofs.full.full_quality.Tie as tie
 
-slice-aggregate-ln-sum-exp-array : tie.Need-slice-aggregate-ln-sum-exp-array
-slice-aggregate-ln-sum-exp-array c = search needs
-
-ln-sum-exp-array-requires : tie.Need-ln-sum-exp-array-requires
-ln-sum-exp-array-requires c κs = search needs
+ln-sum-exp-lanes-requires : tie.Need-ln-sum-exp-lanes-requires
+ln-sum-exp-lanes-requires c κs = search needs
 
 ln-normalize-requires : tie.Need-ln-normalize-requires
 ln-normalize-requires c κs = search needs
@@ -24,14 +21,13 @@ ln-prob-to-phred-requires c κs = search needs
 
 returns : tie.Need-returns
 unfolding fullQuality
-returns c = rw (← c .before .before .before .before .ln-sum-exp-array .ensures, ← c .before .before .before .ln-normalize .ensures, ← c .before .before .ln-not .ensures, ← c .before .ln-error-prob-two-trials .ensures) (c .ln-prob-to-phred .ensures)
+returns c = rw (← c .before .before .before .before .ln-sum-exp-lanes .ensures, ← c .before .before .before .ln-normalize .ensures, ← c .before .before .ln-not .ensures, ← c .before .ln-error-prob-two-trials .ensures) (c .ln-prob-to-phred .ensures)
 
 pub full-quality-spec : {M : Type 1} → statement M
 full-quality-spec =
     tie.close
     (tie.spec
-    slice-aggregate-ln-sum-exp-array
-    ln-sum-exp-array-requires
+    ln-sum-exp-lanes-requires
     ln-normalize-requires
     ln-not-requires
     ln-error-prob-two-trials-requires

@@ -15,18 +15,18 @@ returns : tie.Need-returns
 unfolding uniqueMaxIndex
 returns c = rw (← c .before .before .ulp-scan .ensures, ← c .before .is-finite .ensures, not-true (c .before .is-finite .result) (c .if1 .taken))
 
-untied-requires : tie.Need-untied-requires
-untied-requires c κs = search needs
+none-ties-requires : tie.Need-none-ties-requires
+none-ties-requires c κs = search needs
 
 returns-2 : tie.Need-returns-2
 unfolding uniqueMaxIndex
-returns-2 c = rw (← c .before .before .before .before .ulp-scan .ensures, ← c .before .before .before .is-finite .ensures, not-false (c .before .before .before .is-finite .result) (c .before .before .if1 .left), ← c .before .untied .ensures, c .if2 .taken)
+returns-2 c = rw (← c .before .before .before .before .ulp-scan .ensures, ← c .before .before .before .is-finite .ensures, not-false (c .before .before .before .is-finite .result) (c .before .before .if1 .left), ← c .before .none-ties .ensures, c .if2 .taken)
 
 returns-3 : tie.Need-returns-3
 unfolding uniqueMaxIndex
-returns-3 c = rw (← c .before .before .before .before .ulp-scan .ensures, ← c .before .before .before .is-finite .ensures, not-false (c .before .before .before .is-finite .result) (c .before .before .if1 .left), ← c .before .untied .ensures, c .if2 .left)
+returns-3 c = rw (← c .before .before .before .before .ulp-scan .ensures, ← c .before .before .before .is-finite .ensures, not-false (c .before .before .before .is-finite .result) (c .before .before .if1 .left), ← c .before .none-ties .ensures, c .if2 .left)
 
 pub unique-max-index-spec : {M : Type 1} → statement M
 unique-max-index-spec =
     tie.close
-    (tie.spec ulp-scan-requires is-finite-requires returns untied-requires returns-2 returns-3)
+    (tie.spec ulp-scan-requires is-finite-requires returns none-ties-requires returns-2 returns-3)

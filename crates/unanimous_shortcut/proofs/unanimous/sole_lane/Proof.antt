@@ -1,78 +1,84 @@
--- `sole_lane`: every lane passed but the first observed has the count 0; a further one that was observed decides. Assumes nothing.
-use Prim.Native.Nat.{ℕ, _-_, _≤_}
-use mathlib.Core.Path.{_≡_, refl}
-use mathlib.Core.Bool.{Bool, true, _||_}
-use mathlib.Core.List.{List}
-use mathlib.Core.Logic.{⊎-elim}
-use native.Mathlib.Omega.{arith}
-use lib.Dec.{eqb}
-use borrow.Author.Tests.{eq-eqb, ne-eqb}
+-- `sole_lane`: the sums of the four. Assumes nothing.
 use borrow.Author.Needs.{needs}
-use Rattle.tie_rules.proofs.Lanes.{below-on, below-end, below-stop}
-use Rattle.tie_rules.specs.Lanes.{allBelow, counted}
-use Rattle.unanimous_shortcut.specs.Unanimous.{soleLane}
+use borrow.Author.Tests.{eq-eqb, ne-eqb}
+use native.Mathlib.Omega.{arith}
+use Rattle.unanimous_shortcut.proofs.Sole.{sole-by-sums}
 use Rattle.unanimous_shortcut.proofs.unanimous.sole_lane.Statement.{statement}
 use Rattle.unanimous_shortcut.proofs.unanimous.sole_lane.Tie as tie
 
--- lane k is lane i, or was not observed
-abbrev silent : List ℕ → ℕ → ℕ → Bool
-silent ns i k = eqb i k || eqb (counted ns k) 0
+array-read-seen : tie.Need-array-read-seen
+array-read-seen c = search needs
 
-abbrev Inv-loop : tie.InvT-loop
-Inv-loop observations i j₀ j = (j ≤ 4) × (allBelow j (silent observations i) ≡ true)
+seen-requires : tie.Need-seen-requires
+seen-requires c κs = search needs
 
-abbrev μ-loop : tie.MeasureT-loop
-μ-loop observations i j₀ j = 4 - j
+array-read-seen-2 : tie.Need-array-read-seen-2
+array-read-seen-2 c = search needs
 
-first-seen-requires : tie.Need-first-seen-requires Inv-loop μ-loop
-first-seen-requires c κs = search needs
+seen-requires-2 : tie.Need-seen-requires-2
+seen-requires-2 c κs = search needs
 
-loop-holds : tie.Need-loop-holds Inv-loop μ-loop
-unfolding allBelow
-loop-holds c = (omega arith, refl)
+array-read-seen-3 : tie.Need-array-read-seen-3
+array-read-seen-3 c = search needs
 
-mul-if2 : tie.Need-mul-if2 Inv-loop μ-loop
-mul-if2 c = search needs
+seen-requires-3 : tie.Need-seen-requires-3
+seen-requires-3 c κs = search needs
 
-array-read-if2 : tie.Need-array-read-if2 Inv-loop μ-loop
-array-read-if2 c = search needs
+array-read-seen-4 : tie.Need-array-read-seen-4
+array-read-seen-4 c = search needs
 
-returns : tie.Need-returns Inv-loop μ-loop
-unfolding soleLane
+seen-requires-4 : tie.Need-seen-requires-4
+seen-requires-4 c κs = search needs
+
+add-if1 : tie.Need-add-if1
+add-if1 c = omega arith
+
+add-if1-2 : tie.Need-add-if1-2
+add-if1-2 c = omega arith
+
+add-if1-3 : tie.Need-add-if1-3
+add-if1-3 c = omega arith
+
+mul-result : tie.Need-mul-result
+mul-result c = search needs
+
+add-result : tie.Need-add-result
+add-result c = search needs
+
+mul-result-2 : tie.Need-mul-result-2
+mul-result-2 c = search needs
+
+add-result-2 : tie.Need-add-result-2
+add-result-2 c = search needs
+
+returns : tie.Need-returns
 returns c =
-    let l = c .before .before .before .loop in
-    let f = c .before .before .before .before in
-    rw (← f .first-seen .ensures, below-stop 4 (silent (f .before .args .t1) (f .first-seen .result)) (l .j) (c .before .before .loop-test .taken) (rw (ne-eqb _ _ (c .before .if1 .taken), ne-eqb _ _ (c .if2 .taken))))
+    let d = c .before in
+    rw (← sole-by-sums _, ← d .before .before .before .seen .ensures .0, ← d .before .before .seen2 .ensures .0, ← d .before .seen3 .ensures .0, ← d .seen4 .ensures .0, eq-eqb _ _ (c .if1 .taken))
 
-add-j : tie.Need-add-j Inv-loop μ-loop
-add-j c = omega arith
-
-loop-less : tie.Need-loop-less Inv-loop μ-loop
-loop-less c = omega arith
-
-loop-again : tie.Need-loop-again Inv-loop μ-loop
-loop-again c =
-    (omega arith, below-on _ _ (c .before .before .loop .inv .1) (⊎-elim (λ h. rw (ne-eqb _ _ (h .0 .taken), eq-eqb _ _ (h .1 .left))) (λ h. rw (eq-eqb _ _ (h .left))) (c .if1 .came)))
-
-returns-2 : tie.Need-returns-2 Inv-loop μ-loop
-unfolding soleLane
+returns-2 : tie.Need-returns-2
 returns-2 c =
-    let l = c .before .loop in
-    let j : l .j ≡ 4 = omega arith in
-    rw (← c .before .before .first-seen .ensures, below-end _ j (l .inv .1))
+    let d = c .before in
+    rw (← sole-by-sums _, ← d .before .before .before .seen .ensures .0, ← d .before .before .seen2 .ensures .0, ← d .before .seen3 .ensures .0, ← d .seen4 .ensures .0, ne-eqb _ _ (c .if1 .left))
 
 pub sole-lane-spec : {M : Type 1} → statement M
 sole-lane-spec =
     tie.close
     (tie.spec
-    Inv-loop
-    μ-loop
-    first-seen-requires
-    loop-holds
-    mul-if2
-    array-read-if2
+    array-read-seen
+    seen-requires
+    array-read-seen-2
+    seen-requires-2
+    array-read-seen-3
+    seen-requires-3
+    array-read-seen-4
+    seen-requires-4
+    add-if1
+    add-if1-2
+    add-if1-3
+    mul-result
+    add-result
+    mul-result-2
+    add-result-2
     returns
-    add-j
-    loop-less
-    loop-again
     returns-2)

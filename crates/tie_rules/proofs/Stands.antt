@@ -1,6 +1,5 @@
--- Where a tie rule names a lane, none is above it and no other ties with it as the rule tests it: of the tests that document 01 adds to the multibase
--- shortcut none but the one for a finite lane can fail, and that under FgbioCompat alone. Assumes nothing.
-use mathlib.Core.Path.{_≡_, refl, sym, ap, _∙_, subst}
+-- Where a tie rule names a lane, none is above it and no other ties with it as the rule tests it; and under UlpRelative it is finite. Assumes nothing.
+use mathlib.Core.Path.{_≡_, refl, sym, _∙_, subst}
 use mathlib.Core.Bool.{Bool, true, false, not, _&&_, _||_}
 use mathlib.Core.Logic.{inl, inr, _≢_, ⊎-elim}
 use mathlib.Core.List.{List}
@@ -10,25 +9,22 @@ use native.Mathlib.Omega.{arith}
 use lib.Dec.{eqb, ltb}
 use lib.Ieee.{Float, nan, inf, fin, lt, le, eq, neg, add, sub, isNan}
 use lib.Ieee.Scale.{finite}
-use borrow.Author.Tests.{ltb-true, lt-ltb, le-ltb, eq-eqb}
-use Rattle.float.specs.Ops.{if_then_else_}
+use borrow.Author.Tests.{lt-ltb, le-ltb, eq-eqb}
 use Rattle.float.specs.Methods.{absOf}
 use Rattle.float.proofs.Cases.{test, clash, refuted, choice, both, and-false}
 use Rattle.float.proofs.Order.{lt-asym, lt-irrefl, lt-trans, lt-numbers, le-or, not-lt-le, eq-lt}
 use Rattle.phred.specs.Phred.{lnZero}
 use Rattle.tie_rules.specs.declared.tie_rule.Run.{Run}
 use Rattle.tie_rules.specs.declared.tie_rule.TieRule.{TieRule}
 use Rattle.tie_rules.specs.declared.tie_rule.TieRule.the-variants.{UlpRelative, FgbioCompat}
 use Rattle.tie_rules.proofs.Lanes.{below-all}
 use Rattle.tie_rules.specs.Lanes.{lane, noLane}
 use Rattle.tie_rules.specs.Ties.{fgbioTie, fgbioTested, tiesWith, untied, noneAbove, taken, cancelled, fgbioStep, ulpStep, scan, unseen, lowest, fgbioUniqueMaxIndex, uniqueMaxIndex, notMinusInfinity, uniqueMaxIndexWith}
-use Rattle.lane_calls.specs.declared.call.Reply.the-variants.{Deferred}
-use Rattle.lane_calls.specs.Multibase.{restReply, multibaseReply}
 
 -- ---- a NaN, and a value above the running maximum
 
 -- a NaN is above nothing
-nan-above : (x y : Float) → isNan x ≡ true → lt y x ≡ false
+pub nan-above : (x y : Float) → isNan x ≡ true → lt y x ≡ false
 nan-above x y h = refuted (lt y x) (λ t. clash (lt-numbers y x t .1) h)
 
 -- and within 2^-52 of nothing, on either side
@@ -194,24 +190,3 @@ pub named-stands : (rule : TieRule) (xs : List Float) → uniqueMaxIndexWith xs 
     → let i = uniqueMaxIndexWith xs rule in (untied rule xs i (lane xs i) ≡ true) × (noneAbove xs (lane xs i) ≡ true)
 named-stands FgbioCompat xs h = fgbio-named xs h
 named-stands UlpRelative xs h = ulp-named xs h .1
-
--- ---- the multibase shortcut
-
--- tests that pass wherever the first does, left out
-left-out : (a b c d : Bool) → (a ≡ true → (c ≡ true) × (d ≡ true)) → (a && (b && (c && d))) ≡ (a && b)
-left-out true true c d f = rw (f refl .0, f refl .1)
-left-out true false c d f = refl
-left-out false b c d f = refl
-
--- the shortcut without the tests for ties and for a lane above
-pub multibase-is : (pre : Float) (xs : List Float) (rule : TieRule) → multibaseReply pre xs rule
-    ≡ (let i = uniqueMaxIndexWith xs rule in
-    let m = lane xs i in
-    if ltb i noLane && finite m then restReply pre xs i m
-    else Deferred)
-unfolding multibaseReply
-multibase-is pre xs rule =
-    let i = uniqueMaxIndexWith xs rule in
-    let m = lane xs i in
-    ap (λ (t : Bool). if t then restReply pre xs i m else Deferred)
-    (left-out (ltb i noLane) (finite m) (untied rule xs i m) (noneAbove xs m) (λ t. named-stands rule xs (ltb-true i noLane t)))

@@ -1,0 +1,64 @@
+-- `call_lanes`: what the shortcut replies for the rule's lane, and else the long calculation for it. Assumes nothing.
+use borrow.Author.Needs.{needs}
+use Rattle.lane_calls.proofs.AddedTests.{named-reply, unnamed-reply, named-full, unnamed-full}
+use Rattle.lane_calls.proofs.lanes.call_lanes.Statement.{statement}
+use Rattle.lane_calls.proofs.lanes.call_lanes.Tie as tie
+
+unique-max-index-with-requires : tie.Need-unique-max-index-with-requires
+unique-max-index-with-requires c κs = search needs
+
+no-call-requires : tie.Need-no-call-requires
+no-call-requires c κs = search needs
+
+returns : tie.Need-returns
+returns c = let e = c .before .before .unique-max-index-with .ensures in rw (unnamed-reply _ _ _ _ e (c .before .if1 .taken), unnamed-full _ _ _ _ e (c .before .if1 .taken)) (c .no-call .ensures)
+
+mul-m : tie.Need-mul-m
+mul-m c = search needs
+
+array-read-m : tie.Need-array-read-m
+array-read-m c = search needs
+
+reply-of-lane-requires : tie.Need-reply-of-lane-requires
+reply-of-lane-requires c κs = search needs
+
+enum-known-short : tie.Need-enum-known-short
+enum-known-short c = search needs
+
+enum-told : tie.Need-enum-told
+enum-told c = search needs
+
+full-quality-requires : tie.Need-full-quality-requires
+full-quality-requires c κs = search needs
+
+called-requires : tie.Need-called-requires
+called-requires c κs = search needs
+
+returns-2 : tie.Need-returns-2
+returns-2 c =
+    let o = c .before .before .before in
+    rw (named-reply _ _ _ _ (o .before .before .unique-max-index-with .ensures) (o .before .if1 .left), ← o .reply-of-lane .ensures, c .before .short .given .1)
+
+returns-3 : tie.Need-returns-3
+returns-3 c =
+    let o = c .before .before .before .before in
+    let e = o .before .before .unique-max-index-with .ensures in
+    let h = o .before .if1 .left in
+    rw (named-reply _ _ _ _ e h, ← o .reply-of-lane .ensures, c .before .before .enum-told .given .1, named-full _ _ _ _ e h, ← c .before .full-quality .ensures) (c .called .ensures)
+
+pub call-lanes-spec : {M : Type 1} → statement M
+call-lanes-spec =
+    tie.close
+    (tie.spec
+    unique-max-index-with-requires
+    no-call-requires
+    returns
+    mul-m
+    array-read-m
+    reply-of-lane-requires
+    enum-known-short
+    enum-told
+    full-quality-requires
+    called-requires
+    returns-2
+    returns-3)

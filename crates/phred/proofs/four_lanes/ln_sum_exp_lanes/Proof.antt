@@ -1,0 +1,65 @@
+-- `ln_sum_exp_lanes`: a list of four is its lanes, and their sum as it is run is that of the list. Assumes nothing.
+use mathlib.Core.Path.{_≡_, sym, ap, _∙_}
+use borrow.Author.Needs.{needs}
+use lib.ListN.{length, getD}
+use lib.Ieee.{nan}
+use Rattle.phred.proofs.FourLanes.{four-lanes, four-of}
+use Rattle.phred.specs.Phred.{lnSumExpArray}
+use Rattle.phred.specs.FourLanes.{sumOfLanes}
+use Rattle.phred.proofs.four_lanes.ln_sum_exp_lanes.Statement.{statement}
+use Rattle.phred.proofs.four_lanes.ln_sum_exp_lanes.Tie as tie
+
+array-read-a : tie.Need-array-read-a
+array-read-a c = search needs
+
+array-read-b : tie.Need-array-read-b
+array-read-b c = search needs
+
+array-read-c : tie.Need-array-read-c
+array-read-c c = search needs
+
+array-read-d : tie.Need-array-read-d
+array-read-d c = search needs
+
+first-two-requires : tie.Need-first-two-requires
+first-two-requires c κs = search needs
+
+first-three-requires : tie.Need-first-three-requires
+first-three-requires c κs = search needs
+
+sum-of-four-requires : tie.Need-sum-of-four-requires
+sum-of-four-requires c κs = search needs
+
+returns : tie.Need-returns
+unfolding sumOfLanes
+returns c =
+    let xs = c .before .before .before .before .before .args .t1 in
+    let n : length xs ≡ 4 = search needs in
+    let r : c .sum-of-four .result ≡ sumOfLanes (getD xs 0 nan) (getD xs 1 nan) (getD xs 2 nan) (getD xs 3 nan) = rw (← c .before .before .before .before .first-two .ensures, ← c .before .before .before .first-three .ensures, c .before .if1 .taken) (c .sum-of-four .ensures) in
+    r ∙ four-lanes _ _ _ _ ∙ sym (ap lnSumExpArray (four-of xs n))
+
+sum-of-four-requires-2 : tie.Need-sum-of-four-requires-2
+sum-of-four-requires-2 c κs = search needs
+
+returns-2 : tie.Need-returns-2
+unfolding sumOfLanes
+returns-2 c =
+    let xs = c .before .before .before .before .before .args .t1 in
+    let n : length xs ≡ 4 = search needs in
+    let r : c .sum-of-four2 .result ≡ sumOfLanes (getD xs 0 nan) (getD xs 1 nan) (getD xs 2 nan) (getD xs 3 nan) = rw (← c .before .before .before .before .first-two .ensures, ← c .before .before .before .first-three .ensures, c .before .if1 .left) (c .sum-of-four2 .ensures) in
+    r ∙ four-lanes _ _ _ _ ∙ sym (ap lnSumExpArray (four-of xs n))
+
+pub ln-sum-exp-lanes-spec : {M : Type 1} → statement M
+ln-sum-exp-lanes-spec =
+    tie.close
+    (tie.spec
+    array-read-a
+    array-read-b
+    array-read-c
+    array-read-d
+    first-two-requires
+    first-three-requires
+    sum-of-four-requires
+    returns
+    sum-of-four-requires-2
+    returns-2)

@@ -1,0 +1,23 @@
+-- `in_either_trial`: each way through the code is a way of the definition. Assumes nothing.
+use Rattle.phred.specs.Phred.{lnErrorProbTwoTrials}
+use borrow.Author.Needs.{needs}
+use Rattle.phred.proofs.in_either_trial.Statement.{statement}
+use Rattle.phred.proofs.in_either_trial.Tie as tie
+
+two-trials-requires : tie.Need-two-trials-requires
+two-trials-requires c κs = search needs
+
+returns : tie.Need-returns
+unfolding lnErrorProbTwoTrials
+returns c = rw (c .before .if1 .taken) (c .two-trials .ensures)
+
+two-trials-requires-2 : tie.Need-two-trials-requires-2
+two-trials-requires-2 c κs = search needs
+
+returns-2 : tie.Need-returns-2
+unfolding lnErrorProbTwoTrials
+returns-2 c = rw (c .before .if1 .left) (c .two-trials2 .ensures)
+
+pub in-either-trial-spec : {M : Type 1} → statement M
+in-either-trial-spec =
+    tie.close (tie.spec two-trials-requires returns two-trials-requires-2 returns-2)

@@ -1,0 +1,13 @@
+-- fgbio's rule as it is run: a scan that begins at -infinity. Definitions only.
+use Prim.Native.Nat.{ℕ}
+use lib.Ieee.{Float, lt, le}
+use Rattle.float.specs.Ops.{_⊖_, bits, if_then_else_}
+use Rattle.tie_rules.specs.declared.lead.Lead.{Lead}
+use Rattle.tie_rules.specs.Lanes.{noLane}
+
+-- one lane: where it is above the best it takes over, and where the best is at most 2^-52 above it no lane leads
+unfoldable pub leadStep : Lead → ℕ → Float → Lead
+leadStep l k x =
+    if lt (l .best) x then record { best = x; at = k }
+    else if le (l .best ⊖ x) (bits 0x3cb0_0000_0000_0000) then record { best = l .best; at = noLane }
+    else l
