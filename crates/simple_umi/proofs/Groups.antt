@@ -3,73 +3,49 @@ use mathlib.Core.Path.{_≡_, refl, sym, _∙_, ap, subst}
 use mathlib.Core.Bool.{Bool, true, false, not, and-false}
 use mathlib.Core.Logic.{_⊎_, inl, inr, ⊎-elim}
 use mathlib.Core.List.{List, [], _∷_, map}
-use Prim.Native.Nat.{ℕ, zero, suc, min, _+_, _-_, _≤_, _<_}
-use native.Mathlib.Nat.{le-of-suc-le-suc, not-suc-le-zero}
-use native.Mathlib.Numerals.{add-one}
+use Prim.Native.Nat.{ℕ, suc, min, _+_, _-_, _≤_, _<_}
+use native.Mathlib.Nat.{not-suc-le-zero}
 use native.Mathlib.Omega.{arith}
 use borrow.Author.Tests.{lt-ltb, le-ltb, eqb-true, eqb-false, eq-eqb, ne-eqb}
 use lib.Dec.{eqb, ltb}
 use lib.Ieee.{nan}
-use lib.ListN.{length, take, drop, set, getD, length-map, length-take, length-drop}
-use lib.Seq.{take-suc, take-suc-set, length-take-le, getD-take, getD-drop}
+use lib.ListN.{length, take, drop, getD, length-map, length-take, length-drop}
+use lib.Seq.{length-take-le, getD-take}
 use Rattle.float.proofs.Cases.{test, both}
-use Rattle.lent_bytes.specs.Lists.{any, every, lastOr, isEmpty, byteAt}
+use Rattle.lent_bytes.specs.Lists.{every, lastOr, isEmpty, byteAt}
 use Rattle.refusals.specs.declared.Refusal.{Refusal}
 use Rattle.refusals.specs.declared.Refusal.the-variants.{NoStrings, LengthsDiffer}
-use Rattle.refusals.specs.declared.Verdict.{Verdict}
-use Rattle.refusals.specs.declared.Verdict.the-variants as verdict
 use Rattle.refusals.specs.Result.{Result, refused, accepted, judged}
 use Rattle.rate_tables.specs.declared.adjusted.AdjustedEntry.{AdjustedEntry}
 use Rattle.rate_tables.specs.Adjusted.{adjustedTables}
-use Rattle.base_builder.specs.declared.builder.ConsensusBaseBuilder.{ConsensusBaseBuilder}
 use Rattle.umi_column.specs.Calls.{namedByte}
 use Rattle.umi_column.proofs.Columns.{column-builder, column-byte}
+use Rattle.umi_family.specs.declared.calls.Called.{Called}
+use Rattle.umi_family.specs.Rows.{Fits, rowsAt, columnsAt}
+use Rattle.umi_family.specs.Family.{verdictWithin, verdictAt, builderBy, bytesBy, lastBy, textAt, calledAt}
+use Rattle.umi_family.proofs.RowLoops.{every-at, fit-so}
 use Rattle.string_set.specs.declared.Reading.{Reading}
 use Rattle.string_set.specs.declared.Reading.the-variants.{Refused, Strings}
 use Rattle.string_set.specs.Places.{readingOf, stringAt, Placed}
 use Rattle.simple_umi.specs.declared.caller.SimpleConsensusCaller.{SimpleConsensusCaller}
-use Rattle.simple_umi.specs.Strings.{firstOf, columnsOf, alike, isFamily, differsFrom}
-use Rattle.simple_umi.specs.Verdicts.{familyVerdict, consensusVerdict, umisVerdict, callVerdict}
-use Rattle.simple_umi.specs.Consensus.{builderAt, byteOf, Found, familyFound, firstFound, found, consensusOf, umisOf, callConsensusOf}
-use Rattle.simple_umi.specs.Places.{Fits, Trimmed, trimmedAt, stringsAt, rowsAt, lengthsAlike, builderBy, bytesBy, lastBy}
-use Rattle.simple_umi.proofs.Rows.{given-length, given-all, columns-length}
-
--- ---- bytes copied one after another: i of them, and all n
-module _ (s text : List ℕ) (from i : ℕ) where
-  pub copied-more : i < length text → from + i < length s → take i text ≡ take i (drop from s)
-      → take (i + 1) (set text i (byteAt s (from + i))) ≡ take (i + 1) (drop from s)
-  copied-more h l e =
-      let k : i < length (drop from s) = rw (length-drop from s) (omega arith) in
-      rw (add-one i, take-suc-set text i (byteAt s (from + i)) h, take-suc (drop from s) i 0 k, getD-drop from s i 0, e)
-
-  pub copied-all : (n : ℕ) → i ≤ n → n ≤ i → take i text ≡ take i (drop from s) → take n text ≡ take n (drop from s)
-  copied-all n h l e =
-      let k : n ≡ i = omega arith in
-      rw k e
-
--- n bytes could be taken, so there are n
-pub taken-inside : (n : ℕ) (text : List ℕ) → length (take n text) ≡ n → n ≤ length text
-taken-inside n text e = omega (arith, sym (length-take n text) ∙ e)
+use Rattle.simple_umi.specs.Strings.{firstOf, columnsOf, alike, isFamily}
+use Rattle.simple_umi.specs.Verdicts.{firstRefusal, familyVerdict, consensusVerdict, umisVerdict, callVerdict}
+use Rattle.simple_umi.specs.Consensus.{builderAt, byteOf, familyFound, firstFound, found, consensusOf, umisOf, callConsensusOf}
+use Rattle.simple_umi.specs.Places.{Trimmed, trimmedAt, stringsAt, lengthsAlike}
+use Rattle.simple_umi.proofs.Rows.{columns-length, columns-same}
 
 -- ---- what holds of each place of a list
 abbrev Each : (ℕ → Type 0) → List ℕ → Type 0
 Each P [] = Unit {0}
 Each P (p ∷ ps) = P p × Each P ps
 
-each-first : (P : ℕ → Type 0) (n : ℕ) (ps : List ℕ) → n ≤ length ps → ((k : ℕ) → k < n → P (byteAt ps k)) → Each P (take n ps)
-each-first P zero ps h g = tt
-each-first P (suc n) [] h g = absurd (not-suc-le-zero h)
-each-first P (suc n) (p ∷ ps) h g = (g 0 (omega arith), each-first P n ps (le-of-suc-le-suc h) (λ k l. g (suc k) (omega arith)))
+each : (P : ℕ → Type 0) (ps : List ℕ) → ((k : ℕ) → k < length ps → P (byteAt ps k)) → Each P ps
+each P [] g = tt
+each P (p ∷ ps) g = (g 0 (omega arith), each P ps (λ k l. g (suc k) (omega arith)))
 
-every-at : (f : ℕ → Bool) (ps : List ℕ) (k : ℕ) → every f ps ≡ true → k < length ps → f (byteAt ps k) ≡ true
-every-at f [] k h l = absurd (not-suc-le-zero l)
-every-at f (p ∷ ps) zero h l = both (f p) (every f ps) h .0
-every-at f (p ∷ ps) (suc k) h l = every-at f ps k (both (f p) (every f ps) h .1) (le-of-suc-le-suc l)
-
-first-at : (f : ℕ → List ℕ) (n : ℕ) (ps : List ℕ) → 0 < n → n ≤ length ps → firstOf (map f (take n ps)) ≡ f (byteAt ps 0)
-first-at f zero ps h l = absurd (not-suc-le-zero h)
-first-at f (suc n) [] h l = absurd (not-suc-le-zero l)
-first-at f (suc n) (p ∷ ps) h l = refl
+first-at : (f : ℕ → List ℕ) (ps : List ℕ) → 0 < length ps → firstOf (map f ps) ≡ f (byteAt ps 0)
+first-at f [] h = absurd (not-suc-le-zero h)
+first-at f (p ∷ ps) h = refl
 
 -- ---- strings at places of a list
 module _ (trim : ℕ) (s : List ℕ) where
@@ -107,46 +83,41 @@ module _ (trim : ℕ) (s : List ℕ) where
       let k = both (eqb (byteAt s p) (byteAt s q)) (every (λ p. eqb (byteAt s p) (byteAt s q)) ps) h in
       rw (eqb-true (byteAt s p) (byteAt s q) (k .0), rows-from q ps (k .1))
 
--- ---- the strings at the first n places
-module _ (trim : ℕ) (s ps : List ℕ) (n : ℕ) (g : Trimmed trim s ps n) where
-  pub strings-count : length (stringsAt trim s (take n ps)) ≡ n
-  strings-count = given-length (trimmedAt trim s) ps n (g .0)
+-- ---- the strings at all places
+module _ (trim : ℕ) (s ps : List ℕ) (g : Trimmed trim s ps) where
+  pub whole-strings : Trimmed 0 s ps
+  whole-strings = (g .0, λ k l. (g .1 k l .0, omega arith))
 
-  pub strings-alike : alike (stringsAt trim s (take n ps)) ≡ lengthsAlike s (take n ps)
-  strings-alike = each-alike trim s (take n ps) (each-first (Whole trim s) n ps (g .0) (g .1))
+  pub strings-count : length (stringsAt trim s ps) ≡ length ps
+  strings-count = length-map ps (trimmedAt trim s)
 
-  pub first-string : 0 < n → firstOf (stringsAt trim s (take n ps)) ≡ trimmedAt trim s (byteAt ps 0)
-  first-string h = first-at (trimmedAt trim s) n ps h (g .0)
+  pub strings-alike : alike (stringsAt trim s ps) ≡ lengthsAlike s ps
+  strings-alike = each-alike trim s ps (each (Whole trim s) ps (g .1))
 
-  pub first-length : 0 < n → length (firstOf (stringsAt trim s (take n ps))) ≡ byteAt s (byteAt ps 0) - trim
+  pub first-string : 0 < length ps → firstOf (stringsAt trim s ps) ≡ trimmedAt trim s (byteAt ps 0)
+  first-string h = first-at (trimmedAt trim s) ps h
+
+  pub first-length : 0 < length ps → length (firstOf (stringsAt trim s ps)) ≡ byteAt s (byteAt ps 0) - trim
   first-length h = ap (λ (t : List ℕ). length t) (first-string h) ∙ trimmed-length trim s (byteAt ps 0) (g .1 0 h .0)
 
-  pub lengths-fit : Fits 0 s ps n
-  lengths-fit = (g .0, λ k l. omega (arith, g .1 k l .0))
-
-  pub first-inside : 0 < n → byteAt ps 0 < length s
+  pub first-inside : 0 < length ps → byteAt ps 0 < length s
   first-inside h = omega (arith, g .1 0 h .0)
 
-  pub first-whole : 0 < n → (m : ℕ) → m ≡ byteAt s (byteAt ps 0) → (trim ≤ m) × (byteAt ps 0 + 1 + (m - trim) ≤ length s)
+  pub first-whole : 0 < length ps → (m : ℕ) → m ≡ byteAt s (byteAt ps 0) → (trim ≤ m) × (byteAt ps 0 + 1 + (m - trim) ≤ length s)
   first-whole h m e = rw e (g .1 0 h .1, omega (arith, g .1 0 h .0))
 
   -- where their length bytes are alike
-  module _ (h : 0 < n) (same : lengthsAlike s (take n ps) ≡ true) where
-    like-first : every (λ p. eqb (byteAt s p) (byteAt s (byteAt ps 0))) (take n ps) ≡ true
-    like-first = ap (λ (q : ℕ). every (λ p. eqb (byteAt s p) (byteAt s q)) (take n ps)) (sym (getD-take n ps 0 0 h)) ∙ same
+  module _ (h : 0 < length ps) (same : lengthsAlike s ps ≡ true) where
+    pub strings-rows : stringsAt trim s ps ≡ rowsAt (byteAt s (byteAt ps 0) - trim) s ps
+    strings-rows = rows-from trim s (byteAt ps 0) ps same
 
-    pub strings-rows : stringsAt trim s (take n ps) ≡ rowsAt (byteAt s (byteAt ps 0) - trim) s (take n ps)
-    strings-rows = rows-from trim s (byteAt ps 0) (take n ps) like-first
-
-    pub strings-fit : Fits (byteAt s (byteAt ps 0) - trim) s ps n
+    pub strings-fit : Fits (byteAt s (byteAt ps 0) - trim) s ps
     strings-fit = (
+      h,
       g .0,
       λ k l.
-          let i : k < length (take n ps) = rw (length-take-le n ps (g .0)) l in
-          let test = every-at (λ p. eqb (byteAt s p) (byteAt s (byteAt ps 0))) (take n ps) k like-first i in
-          let e : byteAt s (byteAt (take n ps) k) ≡ byteAt s (byteAt ps 0) = eqb-true _ _ test in
-          let f : byteAt s (byteAt ps k) ≡ byteAt s (byteAt ps 0) = ap (byteAt s) (sym (getD-take n ps k 0 l)) ∙ e in
-          omega (arith, f, g .1 k l .0),
+          let e : byteAt s (byteAt ps k) ≡ byteAt s (byteAt ps 0) = eqb-true _ _ (every-at (λ p. eqb (byteAt s p) (byteAt s (byteAt ps 0))) ps k same l) in
+          omega (arith, e, g .1 k l .0),
     )
 
 -- ---- what is said of a list of strings, by cases
@@ -212,70 +183,62 @@ module _ (c : SimpleConsensusCaller) (entry : AdjustedEntry)
   builders-by [] = refl
   builders-by (column ∷ columns) = λ i. builder-by column i ∷ builders-by columns i
 
-  pub last-by : (columns : List (List ℕ)) → lastBy entry (c .builder) columns ≡ lastOr (c .builder) (map (builderAt c) columns)
+  last-by : (columns : List (List ℕ)) → lastBy entry (c .builder) columns ≡ lastOr (c .builder) (map (builderAt c) columns)
   last-by columns = ap (lastOr (c .builder)) (builders-by columns)
 
-pub bytes-length : (entry : AdjustedEntry) (b : ConsensusBaseBuilder) (w : ℕ) (strings : List (List ℕ)) (text : List ℕ)
-    → text ≡ bytesBy entry b (columnsOf w strings) → length text ≡ w
-bytes-length entry b w strings text e =
-    ap (λ (l : List ℕ). length l) e
-    ∙ length-map (columnsOf w strings) (λ column. namedByte (builderBy entry b column) (byteAt column 0)) ∙ columns-length w strings
+  -- what `call_family` gives with a text of the strings' width
+  pub called-found : (w : ℕ) (s ps text : List ℕ) → length text ≡ w → Fits w s ps → (called : Called) → called ≡ calledAt entry (c .builder) s ps text
+      → (after : List ℕ) → after ≡ textAt entry (c .builder) s ps text
+      → familyFound c w (rowsAt w s ps) ≡ record { text = after; hadErrors = called .«had_errors»; builder = called .builder }
+  unfolding familyFound textAt calledAt
+  called-found w s ps text size fit called e after f =
+      rw (e, f, size, fit-so w s ps fit, columns-same w s ps, ← bytes-by (columnsAt w s ps), ← last-by (columnsAt w s ps))
 
--- ---- what a family gives: v is its verdict
-module _ (c : SimpleConsensusCaller) (w : ℕ) (s ps : List ℕ) (v : Verdict) (said : v ≡ familyVerdict w (rowsAt w s ps)) where
-  abbrev rows : List (List ℕ)
-  rows = rowsAt w s ps
+-- its verdict
+pub verdict-same : (w : ℕ) (s ps : List ℕ) → Fits w s ps → verdictAt w s ps ≡ familyVerdict w (rowsAt w s ps)
+unfolding verdictAt verdictWithin familyVerdict firstRefusal
+verdict-same w s ps fit = rw (fit-so w s ps fit, columns-same w s ps)
 
-  pub family-refused : (r : Refusal) → v ≡ verdict.Refused r → (t : Result Found) → t ≡ refused r → t ≡ judged (familyVerdict w rows) (familyFound c w rows)
-  family-refused r h t e = e ∙ rw (sym said ∙ h)
+-- the answer is as long as the strings
+pub found-length : (c : SimpleConsensusCaller) (w : ℕ) (strings : List (List ℕ)) → length (familyFound c w strings .text) ≡ w
+unfolding familyFound
+found-length c w strings = length-map (columnsOf w strings) (byteOf c) ∙ columns-length w strings
 
-  pub family-found : v ≡ verdict.Sound → (entry : AdjustedEntry)
-      → entry .correct ≡ getD (adjustedTables (c .«error_rate_post_labeling» .0) .correct) (min (c .«q_error» .0) 93) nan
-      → entry .«error_per_alt» ≡ getD (adjustedTables (c .«error_rate_post_labeling» .0) .«error_per_alt») (min (c .«q_error» .0) 93) nan
-      → (text : List ℕ) → text ≡ bytesBy entry (c .builder) (columnsOf w rows)
-      → (errors : Bool) → errors ≡ any (differsFrom text) (rowsAt (length text) s ps)
-      → (after : ConsensusBaseBuilder) → after ≡ lastBy entry (c .builder) (columnsOf w rows)
-      → accepted (record { text = text; hadErrors = errors; builder = after }) ≡ judged (familyVerdict w rows) (familyFound c w rows)
-  unfolding familyFound
-  family-found h entry a b text e errors f after g =
-      let size : length text ≡ w = bytes-length entry (c .builder) w rows text e in
-      let is : text ≡ map (byteOf c) (columnsOf w rows) = e ∙ bytes-by c entry a b (columnsOf w rows) in
-      rw (sym said ∙ h, f, size, g, last-by c entry a b (columnsOf w rows), ← is)
+-- ---- what a group gives: of no strings
+pub group-none : (c : SimpleConsensusCaller) (trim : ℕ) (s ps : List ℕ) → length ps ≡ 0
+    → consensusOf c (stringsAt trim s ps) ≡ accepted (record { text = []; hadErrors = false; builder = c .builder })
+unfolding alike firstFound
+group-none c trim s [] h = said-first c [] (inl (omega arith))
+group-none c trim s (p ∷ ps) h = absurd (omega arith)
 
--- ---- what a group gives: m is the first length byte, b says whether the length bytes are alike
-module _ (c : SimpleConsensusCaller) (trim : ℕ) (s ps : List ℕ) (n : ℕ) (g : Trimmed trim s ps n) where
-  pub group-none : n ≡ 0 → accepted (record { text = []; hadErrors = false; builder = c .builder }) ≡ consensusOf c (stringsAt trim s (take n ps))
-  unfolding alike firstFound
-  group-none h = rw h (sym (said-first c [] (inl (omega arith))))
-
+-- of others: m is the first length byte, b says whether the length bytes are alike
+module _ (c : SimpleConsensusCaller) (trim : ℕ) (s ps : List ℕ) (g : Trimmed trim s ps) where
   abbrev strings : List (List ℕ)
-  strings = stringsAt trim s (take n ps)
+  strings = stringsAt trim s ps
 
-  module _ (m : ℕ) (e : m ≡ byteAt s (byteAt ps 0)) (b : Bool) (k : b ≡ lengthsAlike s (take n ps)) where
-    pub group-family : 1 < n → b ≡ true
-        → judged (familyVerdict (m - trim) (rowsAt (m - trim) s (take n ps))) (familyFound c (m - trim) (rowsAt (m - trim) s (take n ps)))
-        ≡ consensusOf c (stringsAt trim s (take n ps))
+  module _ (m : ℕ) (e : m ≡ byteAt s (byteAt ps 0)) (b : Bool) (k : b ≡ lengthsAlike s ps) where
+    pub group-family : 1 < length ps → b ≡ true
+        → consensusOf c (stringsAt trim s ps) ≡ judged (familyVerdict (m - trim) (rowsAt (m - trim) s ps)) (familyFound c (m - trim) (rowsAt (m - trim) s ps))
     group-family h t =
-        let a : lengthsAlike s (take n ps) ≡ true = sym k ∙ t in
-        let i : 0 < n = omega arith in
-        let j : 1 < length strings = rw (strings-count trim s ps n g) h in
+        let a : lengthsAlike s ps ≡ true = sym k ∙ t in
+        let i : 0 < length ps = omega arith in
+        let j : 1 < length strings = rw (strings-count trim s ps g) h in
         let w = byteAt s (byteAt ps 0) - trim in
         rw e
-        (sym
-        (said-family c strings j (strings-alike trim s ps n g ∙ a)
-        ∙ ap (λ (v : ℕ). judged (familyVerdict v strings) (familyFound c v strings)) (first-length trim s ps n g i)
-        ∙ ap (λ (l : List (List ℕ)). judged (familyVerdict w l) (familyFound c w l)) (strings-rows trim s ps n g i a)))
+        (said-family c strings j (strings-alike trim s ps g ∙ a)
+        ∙ ap (λ (v : ℕ). judged (familyVerdict v strings) (familyFound c v strings)) (first-length trim s ps g i)
+        ∙ ap (λ (l : List (List ℕ)). judged (familyVerdict w l) (familyFound c w l)) (strings-rows trim s ps g i a))
 
-    pub group-fits : 1 < n → b ≡ true → Fits (m - trim) s ps n
-    group-fits h t = rw e (strings-fit trim s ps n g (omega arith) (sym k ∙ t))
+    pub group-fits : 1 < length ps → b ≡ true → Fits (m - trim) s ps
+    group-fits h t = rw e (strings-fit trim s ps g (omega arith) (sym k ∙ t))
 
-    pub group-first : 0 < n → (n ≤ 1) ⊎ (b ≡ false) → (text : List ℕ) → text ≡ take (m - trim) (drop (byteAt ps 0 + 1) s)
-        → accepted (record { text = text; hadErrors = not b; builder = c .builder }) ≡ consensusOf c (stringsAt trim s (take n ps))
+    pub group-first : 0 < length ps → (length ps ≤ 1) ⊎ (b ≡ false) → (text : List ℕ) → text ≡ take (m - trim) (drop (byteAt ps 0 + 1) s)
+        → consensusOf c (stringsAt trim s ps) ≡ accepted (record { text = text; hadErrors = not b; builder = c .builder })
     unfolding firstFound trimmedAt
     group-first h t text f =
         let j : (length strings ≤ 1) ⊎ (alike strings ≡ false) =
-        ⊎-elim (λ l. inl (rw (strings-count trim s ps n g) l)) (λ l. inr (strings-alike trim s ps n g ∙ sym k ∙ l)) t in
-        rw (said-first c strings j, first-string trim s ps n g h, strings-alike trim s ps n g, ← k, f, e)
+        ⊎-elim (λ l. inl (rw (strings-count trim s ps g) l)) (λ l. inr (strings-alike trim s ps g ∙ sym k ∙ l)) t in
+        rw (said-first c strings j, first-string trim s ps g h, strings-alike trim s ps g, ← k, f, e)
 
 -- ---- the strings of a set that was read
 whole-string : (s : List ℕ) (p : ℕ) → stringAt s p ≡ trimmedAt 0 s p
@@ -284,10 +247,10 @@ whole-string s p =
     let e : byteAt s p - 0 ≡ byteAt s p = omega arith in
     rw e
 
--- the strings are where the places say, and none is shortened
+-- the strings are where the first n places say, and none is shortened
 abbrev Read : List ℕ → List ℕ → Result (List (List ℕ)) → Reading → Type 0
 Read s ps t (Refused r) = t ≡ refused r
-Read s ps t (Strings n) = (t ≡ accepted (stringsAt 0 s (take n ps))) × (n ≤ 255) × Trimmed 0 s ps n
+Read s ps t (Strings n) = (t ≡ accepted (stringsAt 0 s (take n ps))) × (n ≤ length ps) × Trimmed 0 s (take n ps)
 
 module _ (s ps : List ℕ) where
   map-whole : (qs : List ℕ) → map (stringAt s) qs ≡ stringsAt 0 s qs
@@ -296,15 +259,16 @@ module _ (s ps : List ℕ) where
 
   set-read : (t : Result (List (List ℕ))) → Placed s t ps → Read s ps t (readingOf t)
   set-read (refused r) h = refl
-  set-read (accepted l) h = (
-    ap accepted (sym (sym (map-whole (take (length l) ps)) ∙ h .0)),
-    omega (arith, h .1),
-    (given-all (stringAt s) ps (length l) (ap (λ (j : List (List ℕ)). length j) (h .0)), λ k i. (h .2 k i, omega arith)),
-  )
+  set-read (accepted l) h =
+      let n = length l in
+      let size : length (take n ps) ≡ n = sym (length-map (take n ps) (stringAt s)) ∙ ap (λ (j : List (List ℕ)). length j) (h .0) in
+      let whole : (k : ℕ) → k < length (take n ps) → byteAt (take n ps) k + 1 + byteAt s (byteAt (take n ps) k) ≤ length s =
+      λ k i. rw (getD-take n ps k 0 (omega arith)) (h .2 k (omega arith)) in
+      (ap accepted (sym (sym (map-whole (take n ps)) ∙ h .0)), omega (arith, sym (length-take n ps) ∙ size), (omega (arith, h .1), λ k i. (whole k i, omega arith)))
 
   module _ (t : Result (List (List ℕ))) (g : Reading) (e : g ≡ readingOf t) (p : Placed s t ps) where
     pub read-refused : (r : Refusal) → g ≡ Refused r → t ≡ refused r
     read-refused r h = subst (Read s ps t) (sym e ∙ h) (set-read t p)
 
-    pub read-strings : (n : ℕ) → g ≡ Strings n → (t ≡ accepted (stringsAt 0 s (take n ps))) × (n ≤ 255) × Trimmed 0 s ps n
+    pub read-strings : (n : ℕ) → g ≡ Strings n → (t ≡ accepted (stringsAt 0 s (take n ps))) × (n ≤ length ps) × Trimmed 0 s (take n ps)
     read-strings n h = subst (Read s ps t) (sym e ∙ h) (set-read t p)

@@ -1,4 +1,3 @@
-pub mod RowLoops
 pub mod Rows
 pub mod Groups
 pub mod Replies

@@ -1,14 +1,10 @@
--- Refused or accepted, by cases: a verdict and what it leaves, the room in the buffer, and what the functions say of it. Assumes nothing.
+-- Refused or accepted, by cases: the room in the buffer, what a group gives, and what the functions say of it. Assumes nothing.
 use mathlib.Core.Path.{_≡_, refl, sym, _∙_, ap, subst}
-use mathlib.Core.Bool.{Bool, true, false}
-use mathlib.Core.List.{List}
+use mathlib.Core.List.{List, [], _++_}
 use Prim.Native.Nat.{ℕ, _≤_, _<_}
 use native.Mathlib.Omega.{arith}
-use borrow.Author.Tests.{lt-ltb, le-ltb, leb-true, leb-false}
-use lib.Dec.{ltb, leb}
-use lib.ListN.{length, take, length-take}
-use lib.Seq.{length-take-le}
-use Rattle.float.proofs.Cases.{choice}
+use borrow.Author.Tests.{lt-ltb, le-ltb, le-leb}
+use lib.ListN.{length, drop}
 use Rattle.lent_bytes.specs.Buffer.{written}
 use Rattle.lent_bytes.proofs.Buffer.{short-written}
 use Rattle.refusals.specs.declared.Refusal.{Refusal}
@@ -17,6 +13,9 @@ use Rattle.refusals.specs.declared.Verdict.{Verdict}
 use Rattle.refusals.specs.declared.Verdict.the-variants.{Sound, Refused}
 use Rattle.refusals.specs.Refusals.{numberIn}
 use Rattle.refusals.specs.Result.{Result, refused, accepted, judged, andThen}
+use Rattle.base_builder.specs.declared.builder.ConsensusBaseBuilder.{ConsensusBaseBuilder}
+use Rattle.umi_family.specs.Rows.{Fits, rowsAt}
+use Rattle.umi_family.specs.Family.{verdictAt}
 use Rattle.string_set.specs.StringSet.{readSet}
 use Rattle.simple_umi.specs.declared.answers.Answer.{Answer}
 use Rattle.simple_umi.specs.declared.answers.Answer.the-variants as answer
@@ -26,19 +25,12 @@ use Rattle.simple_umi.specs.declared.answers.DuplexAnswer.{DuplexAnswer}
 use Rattle.simple_umi.specs.declared.answers.DuplexAnswer.the-variants as duplex
 use Rattle.simple_umi.specs.declared.group.Group.{Group}
 use Rattle.simple_umi.specs.declared.caller.SimpleConsensusCaller.{SimpleConsensusCaller}
-use Rattle.simple_umi.specs.Consensus.{Found, withBuilder, defaultCaller, consensusOf, umisOf}
+use Rattle.simple_umi.specs.Verdicts.{familyVerdict}
+use Rattle.simple_umi.specs.Consensus.{Found, withBuilder, defaultCaller, familyFound, consensusOf, umisOf}
 use Rattle.simple_umi.specs.Duplex.{FoundDuplex}
-use Rattle.simple_umi.specs.Places.{groupFound, groupResult}
-use Rattle.simple_umi.specs.Answers.{roomFor, callConsensusIn, consensusIn, consensusUmisIn, verdictIn, answerOf, flaggedOf, duplexAnswerOf, answerNumber, flaggedNumber, duplexNumber, answerLength, flaggedLength, duplexLength, bufferAfter, callerAfter}
-use Rattle.simple_umi.proofs.Groups.{call-none, call-some}
-
--- ---- a text in an array of 255
-module _ (n : ℕ) (text : List ℕ) (short : n ≤ 255) (size : length text ≡ 255) where
-  pub text-inside : n ≤ length text
-  text-inside = omega arith
-
-  pub text-length : length (take n text) ≡ n
-  text-length = length-take-le n text text-inside
+use Rattle.simple_umi.specs.Places.{Gave}
+use Rattle.simple_umi.specs.Answers.{roomFor, callConsensusIn, consensusIn, consensusUmisIn, answerOf, flaggedOf, duplexAnswerOf, answerNumber, flaggedNumber, duplexNumber, answerLength, flaggedLength, duplexLength, bufferAfter, callerAfter}
+use Rattle.simple_umi.proofs.Groups.{call-none, call-some, verdict-same, found-length}
 
 -- ---- room for what was found
 module _ (out : List ℕ) (f : Found) where
@@ -50,22 +42,64 @@ module _ (out : List ℕ) (f : Found) where
   unfolding roomFor
   room-enough h = rw (le-ltb (length out) (length (f .text)) h)
 
--- ---- put's reply: v and f are the group's, and b says whether the text fits
-abbrev Said : List ℕ → List ℕ → Verdict → Result Found → Type 0
-Said out after reply t = (reply ≡ verdictIn t) × (after ≡ bufferAfter out t)
+-- a text that fits, whatever the verdict
+pub room-judged : (out : List ℕ) (t : Result Found) (v : Verdict) (f : Found) → t ≡ judged v f → length (f .text) ≤ length out → andThen t (roomFor out) ≡ t
+room-judged out t Sound f e h = rw e (room-enough out f h)
+room-judged out t (Refused r) f e h = rw e
 
-module _ (out : List ℕ) (v : Verdict) (f : Found) where
-  pub put-refused : (r : Refusal) → v ≡ Refused r → Said out out (Refused r) (andThen (judged v f) (roomFor out))
-  put-refused r e = rw e (refl, refl)
+-- an empty text leaves a buffer as it is
+pub none-written : (out : List ℕ) → out ≡ written [] out
+unfolding written
+none-written out = rw (le-leb 0 (length out) (omega arith))
 
-  module _ (e : v ≡ Sound) (after : List ℕ) (b : Bool) (g : b ≡ leb (length (f .text)) (length out)) (a : after ≡ written (f .text) out) where
-    pub put-fits : b ≡ true → Said out after Sound (andThen (judged v f) (roomFor out))
-    put-fits h = rw (e, room-enough out f (leb-true _ _ (sym g ∙ h))) (refl, a)
+-- ---- what a group and a buffer are afterwards
+module _ (g : Group) (out after : List ℕ) where
+  pub gave-as : (t u : Result Found) → t ≡ u → Gave g out after t → Gave g out after u
+  gave-as t u e h = subst (Gave g out after) e h
 
-    pub put-short : b ≡ false → Said out after (Refused BufferTooShort) (andThen (judged v f) (roomFor out))
-    put-short h =
-        let l : length out < length (f .text) = leb-false _ _ (sym g ∙ h) in
-        rw (e, room-short out f l) (refl, a ∙ sym (short-written (f .text) out l))
+  -- where the group is refused so is what was said
+  pub gave-refused : (t : Result Found) → Gave g out after t → (r : Refusal) → g .verdict ≡ Refused r → (t ≡ refused r) × (after ≡ out)
+  gave-refused (refused q) h r e =
+      let same : q ≡ r = cc in
+      (ap refused same, h .1)
+  gave-refused (accepted f) h r e =
+      let z : _≡_ {A = ℕ} 0 1 = cc in
+      absurd (omega arith)
+
+  -- of a text that was written, if it fits
+  module _ (t : Result Found) (f : Found) (e : t ≡ accepted f) (a : after ≡ written (f .text) out) where
+    pub gave-text : length (f .text) ≤ length out → g .verdict ≡ Sound → g .length ≡ length (f .text) → g .«had_errors» ≡ f .hadErrors → g .builder ≡ f .builder
+        → Gave g out after (andThen t (roomFor out))
+    gave-text h v n k b = rw (e, room-enough out f h) (v, n, k, b, a)
+
+    pub gave-short : length out < length (f .text) → g .verdict ≡ Refused BufferTooShort → Gave g out after (andThen t (roomFor out))
+    gave-short h v = rw (e, room-short out f h) (v, a ∙ sym (short-written (f .text) out h))
+
+-- ---- of a family: v is its verdict
+module _ (c : SimpleConsensusCaller) (w : ℕ) (s ps out : List ℕ) (fit : Fits w s ps) (v : Verdict) (said : v ≡ verdictAt w s ps) where
+  abbrev rows : List (List ℕ)
+  rows = rowsAt w s ps
+
+  abbrev answered : Result Found
+  answered = andThen (judged (familyVerdict w rows) (familyFound c w rows)) (roomFor out)
+
+  verdict-is : familyVerdict w rows ≡ v
+  verdict-is = sym (said ∙ verdict-same w s ps fit)
+
+  pub family-refused : (r : Refusal) → v ≡ Refused r → (g : Group) → g .verdict ≡ Refused r → Gave g out out answered
+  family-refused r h g e = rw (verdict-is ∙ h) (e, refl)
+
+  module _ (h : v ≡ Sound) where
+    pub family-short : length out < w → (g : Group) → g .verdict ≡ Refused BufferTooShort → Gave g out out answered
+    family-short l g e = rw (verdict-is ∙ h, room-short out (familyFound c w rows) (rw (found-length c w rows) l)) (e, refl)
+
+    -- f is what was found, and its text stands in front
+    pub family-given : w ≤ length out → (f : Found) → familyFound c w rows ≡ f
+        → Gave (record { verdict = Sound; length = w; «had_errors» = f .hadErrors; builder = f .builder }) out (f .text ++ drop w out) answered
+    unfolding written
+    family-given l f e =
+        let size : length (f .text) ≡ w = ap (λ (k : Found). length (k .text)) (sym e) ∙ found-length c w rows in
+        rw (verdict-is ∙ h, e, room-enough out f (omega arith)) (refl, sym size, refl, refl, rw (le-leb (length (f .text)) (length out) (omega arith), size))
 
 -- ---- what a caller says in the end: its answer by a reading of what was found, the caller and the buffer
 abbrev pub Ended : {X : Type 0} → (Result Found → X) → SimpleConsensusCaller → List ℕ → X → SimpleConsensusCaller → List ℕ → Result Found → Type 0
@@ -105,19 +139,6 @@ ended-also e d f = (e .0, (e .1 .0, (e .1 .1, (d, f (e .0)))))
 pub ended-fits : {A B C D E F : Type 0} → A × (B × (C × (D × E))) → F → A × (B × (C × (D × (E × F))))
 ended-fits e f = (e .0, (e .1 .0, (e .1 .1 .0, (e .1 .1 .1 .0, (e .1 .1 .1 .1, f)))))
 
--- what was put, by put's reply v
-abbrev Kept : Found → Result Found → Verdict → Type 0
-Kept f t Sound = t ≡ accepted f
-Kept f t (Refused r) = t ≡ refused r
-
-kept-room : (out : List ℕ) (f : Found) → Kept f (roomFor out f) (verdictIn (roomFor out f))
-unfolding roomFor
-kept-room out f = choice (λ t. Kept f t (verdictIn t)) (ltb (length out) (length (f .text))) (refused BufferTooShort) (accepted f) (λ h. refl) (λ h. refl)
-
-kept : (out : List ℕ) (g : Verdict) (f : Found) → Kept f (andThen (judged g f) (roomFor out)) (verdictIn (andThen (judged g f) (roomFor out)))
-kept out Sound f = kept-room out f
-kept out (Refused r) f = refl
-
 module _ {X : Type 0} (say : Result Found → X) (c : SimpleConsensusCaller) (out : List ℕ) (answer : X) (caller : SimpleConsensusCaller) where
   pub ended-refused : (t : Result Found) (r : Refusal) → t ≡ refused r → answer ≡ say (refused r) → caller ≡ c → Ended say c out answer caller out t
   ended-refused t r e h k = rw e (h, (k, refl))
@@ -126,24 +147,21 @@ module _ {X : Type 0} (say : Result Found → X) (c : SimpleConsensusCaller) (ou
     pub ended-as : (t u : Result Found) → t ≡ u → Ended say c out answer caller after t → Ended say c out answer caller after u
     ended-as t u e h = subst (Ended say c out answer caller after) e h
 
-    -- after put: g and f are the group's
-    module _ (g : Verdict) (f : Found) (v : Verdict) (reply : v ≡ verdictIn (andThen (judged g f) (roomFor out)))
-        (lent : after ≡ bufferAfter out (andThen (judged g f) (roomFor out))) where
-      pub ended-not-put : (r : Refusal) → v ≡ Refused r → answer ≡ say (refused r) → caller ≡ c
-          → Ended say c out answer caller after (andThen (judged g f) (roomFor out))
-      ended-not-put r h a k =
-          let t : andThen (judged g f) (roomFor out) ≡ refused r = subst (Kept f (andThen (judged g f) (roomFor out))) (sym reply ∙ h) (kept out g f) in
-          (a ∙ ap say (sym t), (k ∙ ap (callerAfter c) (sym t), lent))
+    -- by what a group gave: refused, or a text of this length with this flag
+    module _ (g : Group) where
+      pub ended-not-given : (t : Result Found) → Gave g out after t → (r : Refusal) → g .verdict ≡ Refused r → answer ≡ say (refused r) → caller ≡ c
+          → Ended say c out answer caller after t
+      ended-not-given t h r v a k =
+          let e = gave-refused g out after t h r v in
+          rw (e .0, e .1) (a, (k, refl))
 
-      pub ended-put : v ≡ Sound → answer ≡ say (accepted f) → caller ≡ withBuilder (f .builder) c
-          → Ended say c out answer caller after (andThen (judged g f) (roomFor out))
-      ended-put h a k =
-          let t : andThen (judged g f) (roomFor out) ≡ accepted f = subst (Kept f (andThen (judged g f) (roomFor out))) (sym reply ∙ h) (kept out g f) in
-          (a ∙ ap say (sym t), (k ∙ ap (callerAfter c) (sym t), lent))
-
--- a text of at most 255 bytes
-length-take-most : (n : ℕ) (text : List ℕ) → n ≤ 255 → length (take n text) ≤ 255
-length-take-most n text h = rw (length-take n text) (omega arith)
+      pub ended-given : (t : Result Found) → Gave g out after t → g .verdict ≡ Sound
+          → ((f : Found) → g .length ≡ length (f .text) → g .«had_errors» ≡ f .hadErrors → answer ≡ say (accepted f)) → caller ≡ withBuilder (g .builder) c
+          → Ended say c out answer caller after t
+      ended-given (refused r) h v a k =
+          let z : _≡_ {A = ℕ} 0 1 = cc in
+          absurd (omega arith)
+      ended-given (accepted f) h v a k = (a f (h .1) (h .2), (k ∙ ap (λ (b : ConsensusBaseBuilder). withBuilder b c) (h .3), h .4))
 
 -- ---- of a set's bytes: refused where the set is, and else of its strings
 module _ (s out : List ℕ) where
@@ -176,19 +194,10 @@ module _ (s out : List ℕ) where
     unfolding consensusIn
     consensus-in l e = rw e
 
-    -- a group's text has at most 255 bytes, so that a buffer of as many holds it
-    module _ (h : 255 ≤ length out) where
-      judged-fits : (v : Verdict) (f : Found) → length (f .text) ≤ 255 → andThen (judged v f) (roomFor out) ≡ judged v f
-      judged-fits (Refused r) f n = refl
-      judged-fits Sound f n = room-enough out f (omega arith)
-
-      group-fits : (k : Group) → k .length ≤ 255 → andThen (groupResult k) (roomFor out) ≡ groupResult k
-      group-fits k n = judged-fits (k .verdict) (groupFound k) (length-take-most (k .length) (k .text) n)
-
-      pub consensus-fits : (l : List (List ℕ)) → readSet s ≡ accepted l → (k : Group) → k .length ≤ 255 → groupResult k ≡ consensusOf c l
-          → consensusIn c s out ≡ andThen (readSet s) (consensusOf c)
-      consensus-fits l e k n g =
-          sym (consensus-in l e) ∙ ap (λ (t : Result Found). andThen t (roomFor out)) (sym g) ∙ group-fits k n ∙ g ∙ sym (ap (λ (t : Result (List (List ℕ))). andThen t (consensusOf c)) e)
+    -- where the room is enough
+    pub consensus-fits : (l : List (List ℕ)) → readSet s ≡ accepted l → andThen (consensusOf c l) (roomFor out) ≡ consensusOf c l
+        → consensusIn c s out ≡ andThen (readSet s) (consensusOf c)
+    consensus-fits l e g = sym (consensus-in l e) ∙ g ∙ sym (ap (λ (t : Result (List (List ℕ))). andThen t (consensusOf c)) e)
 
     pub consensus-refused-fits : (r : Refusal) → readSet s ≡ refused r → consensusIn c s out ≡ andThen (readSet s) (consensusOf c)
     consensus-refused-fits r e = consensus-in-refused r e ∙ sym (ap (λ (t : Result (List (List ℕ))). andThen t (consensusOf c)) e)

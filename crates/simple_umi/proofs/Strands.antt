@@ -1,23 +1,29 @@
 -- The strings of a strand: how a string ends, those kept one after another, and what two strands say together. Assumes nothing.
-use mathlib.Core.Path.{_≡_, refl, sym, _∙_, ap}
+use mathlib.Core.Path.{_≡_, refl, sym, _∙_, ap, subst}
 use mathlib.Core.Bool.{Bool, true, false, _&&_, and-true, and-false}
+use mathlib.Core.Logic.{_⊎_, ⊎-elim}
 use mathlib.Core.List.{List, [], _∷_, _++_, map-append, append-assoc, append-nil}
-use Prim.Native.Nat.{ℕ, zero, suc, _+_, _-_, _≤_, _<_}
-use native.Mathlib.Nat.{ne-of-lt, not-suc-le-zero}
+use Prim.Native.Nat.{ℕ, _+_, _-_, _≤_, _<_}
+use native.Mathlib.Nat.{ne-of-lt}
 use native.Mathlib.Numerals.{add-one}
 use native.Mathlib.Omega.{arith}
 use borrow.Author.Count.{below-more}
-use borrow.Author.Tests.{ltb-true, ltb-false}
+use borrow.Author.Tests.{ltb-true, ltb-false, le-leb}
 use lib.Dec.{eqb, ltb}
 use lib.ListN.{length, take, drop, set, drop-of-length-le, length-set}
-use lib.Seq.{take-suc-set, take-take, getD-take, getD-drop, getD-set-same, getD-set-other}
-use Rattle.float.proofs.Cases.{test, choice, clash}
+use lib.Seq.{take-suc-set, take-take, take-at, length-take-le, getD-take, getD-drop, getD-set-same, getD-set-other}
+use Rattle.float.specs.Ops.{if_then_else_}
+use Rattle.float.proofs.Cases.{test, clash}
 use Rattle.lent_bytes.specs.Lists.{isEmpty, byteAt}
+use Rattle.lent_bytes.specs.Buffer.{written}
 use Rattle.lent_bytes.proofs.Lists.{bytes-from}
+use Rattle.lent_bytes.proofs.Buffer.{short-written}
 use Rattle.refusals.specs.declared.Refusal.{Refusal}
+use Rattle.refusals.specs.declared.Refusal.the-variants.{BufferTooShort}
 use Rattle.refusals.specs.declared.Verdict.{Verdict}
 use Rattle.refusals.specs.declared.Verdict.the-variants.{Sound, Refused}
 use Rattle.refusals.specs.Result.{Result, refused, accepted, judged, andThen}
+use Rattle.base_builder.specs.declared.builder.ConsensusBaseBuilder.{ConsensusBaseBuilder}
 use Rattle.string_set.specs.StringSet.{readSet}
 use Rattle.simple_umi.specs.declared.answers.DuplexAnswer.{DuplexAnswer}
 use Rattle.simple_umi.specs.declared.answers.DuplexAnswer.the-variants as duplex
@@ -26,10 +32,10 @@ use Rattle.simple_umi.specs.declared.group.Group.{Group}
 use Rattle.simple_umi.specs.declared.duplex.Pair.{Pair}
 use Rattle.simple_umi.specs.Consensus.{Found, withBuilder, consensusOf}
 use Rattle.simple_umi.specs.Duplex.{FoundDuplex, endsIn, strandOf, paired, duplexOf}
-use Rattle.simple_umi.specs.Answers.{roomFor, duplexIn, duplexAnswerOf, pairFound, verdictIn, bufferAfter, callerAfter}
-use Rattle.simple_umi.specs.Places.{Trimmed, trimmedAt, stringsAt, groupFound, groupResult, pairResult}
+use Rattle.simple_umi.specs.Answers.{duplexIn, duplexAnswerOf, pairFound, bufferAfter, callerAfter}
+use Rattle.simple_umi.specs.Places.{Trimmed, trimmedAt, stringsAt, Gave, GaveBoth, bothFound, roomForBoth}
 use Rattle.simple_umi.proofs.Groups.{trimmed-length}
-use Rattle.simple_umi.proofs.Replies.{text-length, Ended, ended-not-put, ended-put}
+use Rattle.simple_umi.proofs.Replies.{room-short, room-enough, gave-refused}
 
 -- ---- how a string ends
 
@@ -115,145 +121,151 @@ module _ (letter : ℕ) (s ps : List ℕ) (k : ℕ) (kept : List ℕ) (n : ℕ) 
   strand-same : k < length ps → endsIn letter (trimmedAt 0 s (byteAt ps k)) ≡ false → strandTo letter s kept n ps (k + 1) ≡ strandTo letter s kept n ps k
   strand-same h e = rw (bytes-from ps k h, strand-left letter (trimmedAt 0 s (byteAt ps k)) (stringsAt 0 s (drop (k + 1) ps)) e)
 
--- the kept places are those of strings of two bytes or more
-trimmed-more : (s kept : List ℕ) (n p : ℕ) → n < length kept → p + 1 + byteAt s p ≤ length s → 2 ≤ byteAt s p → Trimmed 2 s kept n → Trimmed 2 s (set kept n p) (n + 1)
-trimmed-more s kept n p h i l g = (
-  rw (length-set kept n p) (omega arith),
-  below-more (λ (j : ℕ). (byteAt (set kept n p) j + 1 + byteAt s (byteAt (set kept n p) j) ≤ length s) × (2 ≤ byteAt s (byteAt (set kept n p) j))) n
-      (λ j k. rw (getD-set-other kept n j p 0 (ne-of-lt k)) (g .1 j k))
-      (rw (getD-set-same kept n p 0 h) (i, l)),
-)
+-- the first n places are those of strings of two bytes or more
+abbrev Longer : List ℕ → List ℕ → ℕ → Type 0
+Longer s kept n = (j : ℕ) → j < n → (byteAt kept j + 1 + byteAt s (byteAt kept j) ≤ length s) × (2 ≤ byteAt s (byteAt kept j))
 
--- what holds of them at each turn
-abbrev pub Kept : ℕ → List ℕ → List ℕ → ℕ → List ℕ → ℕ → Type 0
-Kept letter s ps k kept n = (k ≤ length ps) × (n ≤ k) × (length kept ≡ 255) × (strandTo letter s kept n ps k ≡ strandOf letter (stringsAt 0 s ps)) × Trimmed 2 s kept n
+longer-more : (s kept : List ℕ) (n p : ℕ) → n < length kept → p + 1 + byteAt s p ≤ length s → 2 ≤ byteAt s p → Longer s kept n → Longer s (set kept n p) (n + 1)
+longer-more s kept n p h i l g =
+    below-more (λ (j : ℕ). (byteAt (set kept n p) j + 1 + byteAt s (byteAt (set kept n p) j) ≤ length s) × (2 ≤ byteAt s (byteAt (set kept n p) j))) n
+    (λ j k. rw (getD-set-other kept n j p 0 (ne-of-lt k)) (g j k))
+    (rw (getD-set-same kept n p 0 h) (i, l))
+
+pub longer-trimmed : (s kept : List ℕ) (n : ℕ) → n ≤ length kept → n ≤ 255 → Longer s kept n → Trimmed 2 s (take n kept)
+longer-trimmed s kept n h m g =
+    let size : length (take n kept) ≡ n = length-take-le n kept h in
+    (omega arith, λ j l. let k : j < n = omega arith in rw (getD-take n kept j 0 k) (g j k))
+
+-- what holds of them at each turn, in a list of this size
+abbrev pub Kept : ℕ → List ℕ → List ℕ → ℕ → ℕ → List ℕ → ℕ → Type 0
+Kept letter s ps size k kept n = (k ≤ length ps) × (n ≤ k) × (length kept ≡ size) × (strandTo letter s kept n ps k ≡ strandOf letter (stringsAt 0 s ps)) × Longer s kept n
 
 -- a turn, at the place p: what the string's end says, and what is kept then
-pub record Turn (letter : ℕ) (s ps : List ℕ) (k : ℕ) (kept : List ℕ) (n p : ℕ) (ends : Bool) : Type 0 where
-  pub more : ends ≡ true → (kept′ : List ℕ) (n′ : ℕ) → kept′ ≡ set kept n p → n′ ≡ n + 1 → Kept letter s ps (k + 1) kept′ n′
-  pub same : ends ≡ false → (kept′ : List ℕ) (n′ : ℕ) → kept′ ≡ kept → n′ ≡ n → Kept letter s ps (k + 1) kept′ n′
+pub record Turn (letter : ℕ) (s ps : List ℕ) (size k : ℕ) (kept : List ℕ) (n p : ℕ) (ends : Bool) : Type 0 where
+  pub more : ends ≡ true → (kept′ : List ℕ) (n′ : ℕ) → kept′ ≡ set kept n p → n′ ≡ n + 1 → Kept letter s ps size (k + 1) kept′ n′
+  pub same : ends ≡ false → (kept′ : List ℕ) (n′ : ℕ) → kept′ ≡ kept → n′ ≡ n → Kept letter s ps size (k + 1) kept′ n′
 
-module _ (letter : ℕ) (s ps : List ℕ) (k : ℕ) (kept : List ℕ) (n : ℕ) (h : Kept letter s ps k kept n) (few : length ps ≤ 255) (l : k < length ps) where
-  pub kept-turn : (p : ℕ) → p ≡ byteAt ps k → p + 1 + byteAt s p ≤ length s → (ends : Bool) → ends ≡ endsIn letter (trimmedAt 0 s p) → Turn letter s ps k kept n p ends
-  kept-turn p e i ends r = record {
+module _ (letter : ℕ) (s ps : List ℕ) (size k : ℕ) (kept : List ℕ) (n : ℕ) (h : Kept letter s ps size k kept n) (few : length ps ≤ size) (l : k < length ps) where
+  pub kept-turn : (inside : byteAt ps k + 1 + byteAt s (byteAt ps k) ≤ length s) (ends : Bool) → ends ≡ endsIn letter (trimmedAt 0 s (byteAt ps k))
+      → Turn letter s ps size k kept n (byteAt ps k) ends
+  kept-turn inside ends r = record {
     more = λ t kept′ n′ f g.
-        let inside : byteAt ps k + 1 + byteAt s (byteAt ps k) ≤ length s = rw e at i in
-        let yes : endsIn letter (trimmedAt 0 s (byteAt ps k)) ≡ true = rw e at (sym r ∙ t) in
+        let yes : endsIn letter (trimmedAt 0 s (byteAt ps k)) ≡ true = sym r ∙ t in
         let two : 2 ≤ byteAt s (byteAt ps k) = rw (string-length s (byteAt ps k) inside) at (ends-two letter (trimmedAt 0 s (byteAt ps k)) yes) in
-        rw (f, g, e) (
+        rw (f, g) (
           omega arith,
           omega arith,
           simp length-set (h .2),
           strand-more letter s ps k kept n l (omega arith) inside yes ∙ h .3,
-          trimmed-more s kept n (byteAt ps k) (omega arith) inside two (h .4),
+          longer-more s kept n (byteAt ps k) (omega arith) inside two (h .4),
         );
-    same = λ t kept′ n′ f g.
-        let no : endsIn letter (trimmedAt 0 s (byteAt ps k)) ≡ false = rw e at (sym r ∙ t) in
-        rw (f, g) (omega arith, omega arith, h .2, strand-same letter s ps k kept n l no ∙ h .3, h .4);
+    same = λ t kept′ n′ f g. rw (f, g) (omega arith, omega arith, h .2, strand-same letter s ps k kept n l (sym r ∙ t) ∙ h .3, h .4);
   }
 
 -- ---- what two strands say
 
--- a value that a test may refuse, and then what is made of it
-judged-then : {A B : Type 0} (v : Verdict) (x y : A) (f g : A → B) → f x ≡ g y
-    → andThen (judged v x) (λ a. accepted (f a)) ≡ andThen (judged v y) (λ a. accepted (g a))
-judged-then Sound x y f g e = ap accepted e
-judged-then (Refused r) x y f g e = refl
+-- the front of a buffer that a text was written into
+front-written : (t x : List ℕ) (n : ℕ) → n ≡ length t → n ≤ length x → take n (written t x) ≡ t
+unfolding written
+front-written t x n e h = rw (le-leb (length t) (length x) (omega arith)) (take-at t (drop (length t) x) n (sym e))
 
--- the first bytes of a text that has some
-front-some : (n : ℕ) (t : List ℕ) → (n ≡ 0 → ⊥) → 0 < length t → isEmpty (take n t) ≡ false
-front-some zero t h k = absurd (h refl)
-front-some (suc n) [] h k = absurd (not-suc-le-zero k)
-front-some (suc n) (x ∷ t) h k = refl
+none-empty : (t : List ℕ) → length t ≡ 0 → isEmpty t ≡ true
+none-empty [] h = refl
+none-empty (x ∷ t) h = absurd (omega arith)
 
--- the pair of two groups with a text of either
-abbrev pub pairOf : Group → Group → List ℕ → ℕ → Pair
-pairOf a b text n =
-    record { group = record { verdict = b .verdict; text = text; length = n; «had_errors» = a .«had_errors»; builder = b .builder }; «had_errors_b» = b .«had_errors» }
+some-empty : (t : List ℕ) → (length t ≡ 0 → ⊥) → isEmpty t ≡ false
+some-empty [] h = absurd (h refl)
+some-empty (x ∷ t) h = refl
 
-module _ (a b : Group) where
-  -- /A's text is empty
-  pub paired-b : a .length ≡ 0 → pairResult (pairOf a b (b .text) (b .length)) ≡ andThen (groupResult b) (λ f. accepted (paired (groupFound a) f))
-  unfolding paired
-  paired-b e =
-      judged-then (b .verdict) (groupFound (pairOf a b (b .text) (b .length) .group)) (groupFound b)
-      (λ f. record { found = f; hadErrorsB = b .«had_errors» }) (paired (groupFound a)) (rw e)
+-- a and b are the strands' groups, x and y the buffers with their texts, and text is /A's, or /B's where that is empty
+abbrev pub Chosen : Group → Group → List ℕ → List ℕ → List ℕ → Type 0
+Chosen a b x y text = ((a .length ≡ 0) × (text ≡ take (b .length) y)) ⊎ ((a .length ≡ 0 → ⊥) × (text ≡ take (a .length) x))
 
-  -- it is not
-  pub paired-a : (a .length ≡ 0 → ⊥) → 0 < length (a .text)
-      → pairResult (pairOf a b (a .text) (a .length)) ≡ andThen (groupResult b) (λ f. accepted (paired (groupFound a) f))
-  unfolding paired
-  paired-a h k =
-      judged-then (b .verdict) (groupFound (pairOf a b (a .text) (a .length) .group)) (groupFound b)
-      (λ f. record { found = f; hadErrorsB = b .«had_errors» }) (paired (groupFound a)) (rw (front-some (a .length) (a .text) h k))
-
--- ---- both strands of a list of strings, by /A's group
-module _ (c : SimpleConsensusCaller) (strings : List (List ℕ)) (a : Group) (e : groupResult a ≡ consensusOf c (strandOf 65 strings)) where
-  pub duplex-refused : (r : Refusal) → a .verdict ≡ Refused r → (f : Bool) → pairResult (record { group = a; «had_errors_b» = f }) ≡ duplexOf c strings
+module _ (c : SimpleConsensusCaller) (strings : List (List ℕ)) (a : Group) (x x′ : List ℕ) where
+  pub first-refused : Gave a x x′ (consensusOf c (strandOf 65 strings)) → (r : Refusal) → a .verdict ≡ Refused r → duplexOf c strings ≡ refused r
   unfolding duplexOf
-  duplex-refused r h f = rw (← e, h)
+  first-refused g r h = rw (gave-refused a x x′ (consensusOf c (strandOf 65 strings)) g r h .0)
 
-  pub duplex-both : a .verdict ≡ Sound → (d : SimpleConsensusCaller) → d ≡ withBuilder (a .builder) c
-      → (b : Group) → groupResult b ≡ consensusOf d (strandOf 66 strings)
-      → (p : Pair) → pairResult p ≡ andThen (groupResult b) (λ f. accepted (paired (groupFound a) f)) → pairResult p ≡ duplexOf c strings
-  unfolding duplexOf
-  duplex-both h d k b f p g = g ∙ rw (← e, h, f, k)
+  -- what is said of /A and of /B
+  module _ (b : Group) (y y′ text : List ℕ) (m : a .length ≤ length x) (n : b .length ≤ length y) (t : Chosen a b x′ y′ text) where
+    both-found : (f g : Found) → Gave a x x′ (accepted f) → Gave b y y′ (accepted g) → bothFound a b text ≡ paired f g
+    unfolding paired
+    both-found f g h k =
+        let pick : text ≡ (if isEmpty (f .text) then g .text else f .text) =
+        ⊎-elim
+        (λ q. rw (none-empty (f .text) (sym (h .1) ∙ q .0)) (q .1 ∙ ap (take (b .length)) (k .4) ∙ front-written (g .text) y (b .length) (k .1) n))
+        (λ q. rw (some-empty (f .text) (λ e. q .0 (h .1 ∙ e))) (q .1 ∙ ap (take (a .length)) (h .4) ∙ front-written (f .text) x (a .length) (h .1) m))
+        t in
+        rw (pick, h .2, k .3, k .2)
 
--- ---- both strands of a set, and the room in the buffer
+    pub both-said : (s : Result Found) → consensusOf c (strandOf 65 strings) ≡ s → Gave a x x′ s → a .verdict ≡ Sound
+        → (d : SimpleConsensusCaller) → d ≡ withBuilder (a .builder) c → (u : Result Found) → consensusOf d (strandOf 66 strings) ≡ u → Gave b y y′ u
+        → judged (b .verdict) (bothFound a b text) ≡ duplexOf c strings
+    unfolding duplexOf
+    both-said (refused r) e h v d w u f k =
+        let z : _≡_ {A = ℕ} 0 1 = cc in
+        absurd (omega arith)
+    both-said (accepted p) e h v d w (refused r) f k =
+        let same : consensusOf (withBuilder (p .builder) c) (strandOf 66 strings) ≡ refused r = rw (← h .3, ← w) f in
+        rw (k .0, e, same)
+    both-said (accepted p) e h v d w (accepted q) f k =
+        let same : consensusOf (withBuilder (p .builder) c) (strandOf 66 strings) ≡ accepted q = rw (← h .3, ← w) f in
+        rw (k .0, e, same) (ap accepted (both-found p q h k))
 
--- with /B's flag
-abbrev withB : Bool → Found → Result FoundDuplex
-withB b f = accepted (record { found = f; hadErrorsB = b })
+-- ---- room for the text of both, with /B's verdict
+pub judged-refused : {A : Type 0} (v : Verdict) (x : A) (r : Refusal) → v ≡ Refused r → judged v x ≡ refused r
+judged-refused v x r e = rw e
 
-without-b : (b : Bool) (t : Result Found) → pairFound (andThen t (withB b)) ≡ t
-without-b b (refused r) = refl
-without-b b (accepted f) = refl
+pub judged-sound : (out : List ℕ) (v : Verdict) (d : FoundDuplex) → v ≡ Sound → roomForBoth out d ≡ andThen (judged v d) (roomForBoth out)
+judged-sound out v d e = rw e
 
--- both strands fit where the string does
-module _ (out : List ℕ) (f : Found) (b : Bool) where
-  pair-room : andThen (roomFor out f) (λ g. withB b f) ≡ andThen (roomFor out f) (withB b)
-  unfolding roomFor
-  pair-room = choice (λ t. andThen t (λ g. withB b f) ≡ andThen t (withB b)) (ltb (length out) (length (f .text))) _ _ (λ h. refl) (λ h. refl)
+module _ (out : List ℕ) (p : Pair) where
+  pub pair-as : (after : List ℕ) (t u : Result FoundDuplex) → t ≡ u → GaveBoth p out after t → GaveBoth p out after u
+  pair-as after t u e h = subst (GaveBoth p out after) e h
 
-  judged-room : (v : Verdict) → andThen (andThen (judged v f) (withB b)) (λ d. andThen (roomFor out (d .found)) (λ g. accepted d))
-      ≡ andThen (andThen (judged v f) (roomFor out)) (withB b)
-  judged-room Sound = pair-room
-  judged-room (Refused r) = refl
+  -- a strand is refused
+  pub pair-refused : (t : Result FoundDuplex) (r : Refusal) → t ≡ refused r → p .group .verdict ≡ Refused r → GaveBoth p out out (andThen t (roomForBoth out))
+  pair-refused t r e h = rw e ((h, refl), tt)
 
--- the answer, the caller and the buffer in the end
+  -- none is
+  module _ (d : FoundDuplex) (after : List ℕ) (a : after ≡ written (d .found .text) out) where
+    pub pair-short : length out < length (d .found .text) → p .group .verdict ≡ Refused BufferTooShort → GaveBoth p out after (roomForBoth out d)
+    pair-short h v = rw (room-short out (d .found) h) ((v, a ∙ sym (short-written (d .found .text) out h)), tt)
+
+    pub pair-given : length (d .found .text) ≤ length out → p .group .verdict ≡ Sound → p .group .length ≡ length (d .found .text)
+        → p .group .«had_errors» ≡ d .found .hadErrors → p .group .builder ≡ d .found .builder → p .«had_errors_b» ≡ d .hadErrorsB
+        → GaveBoth p out after (roomForBoth out d)
+    pair-given h v n e b f = rw (room-enough out (d .found) h) ((v, n, e, b, a), f)
+
+-- ---- both strands of a set: the answer, the caller and the buffer in the end
 abbrev DuplexEnded : SimpleConsensusCaller → List ℕ → DuplexAnswer → SimpleConsensusCaller → List ℕ → Result FoundDuplex → Type 0
 DuplexEnded c out answer caller after t = (answer ≡ duplexAnswerOf t) × ((caller ≡ callerAfter c (pairFound t)) × (after ≡ bufferAfter out (pairFound t)))
 
-module _ (c : SimpleConsensusCaller) (set out : List ℕ) (answer : DuplexAnswer) (caller : SimpleConsensusCaller) where
-  -- the set is refused
-  pub duplex-unread : (r : Refusal) → readSet set ≡ refused r → answer ≡ duplex.Refused r → caller ≡ c → DuplexEnded c out answer caller out (duplexIn c set out)
+module _ (c : SimpleConsensusCaller) (set out : List ℕ) where
+  pub duplex-unread : (answer : DuplexAnswer) (caller : SimpleConsensusCaller) (r : Refusal) → readSet set ≡ refused r → answer ≡ duplex.Refused r → caller ≡ c
+      → DuplexEnded c out answer caller out (duplexIn c set out)
   unfolding duplexIn
-  duplex-unread r e h k = rw e (h, (k, refl))
+  duplex-unread answer caller r e h k = rw e (h, (k, refl))
 
-  -- it is read, and p is the pair of its strands
-  module _ (strings : List (List ℕ)) (e : readSet set ≡ accepted strings) (p : Pair) (k : pairResult p ≡ duplexOf c strings) where
-    abbrev put : Result Found
-    put = andThen (groupResult (p .group)) (roomFor out)
+  pub duplex-read : (strings : List (List ℕ)) → readSet set ≡ accepted strings → andThen (duplexOf c strings) (roomForBoth out) ≡ duplexIn c set out
+  unfolding duplexIn
+  duplex-read strings e = rw e
 
-    duplex-read : duplexIn c set out ≡ andThen put (withB (p .«had_errors_b»))
-    unfolding duplexIn
-    duplex-read = rw (e, ← k) (judged-room out (groupFound (p .group)) (p .«had_errors_b») (p .group .verdict))
+module _ (c : SimpleConsensusCaller) (out after : List ℕ) (answer : DuplexAnswer) (caller : SimpleConsensusCaller) (p : Pair) where
+  pub duplex-not-given : (t : Result FoundDuplex) → GaveBoth p out after t → (r : Refusal) → p .group .verdict ≡ Refused r → answer ≡ duplex.Refused r → caller ≡ c
+      → DuplexEnded c out answer caller after t
+  duplex-not-given (refused q) h r v a k =
+      let same : q ≡ r = cc in
+      (a ∙ ap duplex.Refused (sym same), (k, h .0 .1))
+  duplex-not-given (accepted d) h r v a k =
+      let z : _≡_ {A = ℕ} 0 1 = cc in
+      absurd (omega arith)
 
-    -- v is the reply to the text that was put
-    module _ (after : List ℕ) (v : Verdict) (f : v ≡ verdictIn put) (g : after ≡ bufferAfter out put) where
-      -- what the answer says of it
-      abbrev say : Result Found → DuplexAnswer
-      say t = duplexAnswerOf (andThen t (withB (p .«had_errors_b»)))
-
-      duplex-ended : Ended say c out answer caller after put → DuplexEnded c out answer caller after (duplexIn c set out)
-      duplex-ended h = rw (duplex-read, without-b (p .«had_errors_b») put) h
-
-      pub duplex-not-put : (r : Refusal) → v ≡ Refused r → answer ≡ duplex.Refused r → caller ≡ c → DuplexEnded c out answer caller after (duplexIn c set out)
-      duplex-not-put r h i j = duplex-ended (ended-not-put say c out answer caller after (p .group .verdict) (groupFound (p .group)) v f g r h i j)
-
-      pub duplex-put : v ≡ Sound → p .group .length ≤ 255 → length (p .group .text) ≡ 255
-          → answer ≡ duplex.Given (p .group .length) (p .group .«had_errors») (p .«had_errors_b») → caller ≡ withBuilder (p .group .builder) c
-          → DuplexEnded c out answer caller after (duplexIn c set out)
-      duplex-put h l m i j =
-          let size = text-length (p .group .length) (p .group .text) l m in
-          duplex-ended (ended-put say c out answer caller after (p .group .verdict) (groupFound (p .group)) v f g h (i ∙ rw size) j)
+  pub duplex-given : (t : Result FoundDuplex) → GaveBoth p out after t → p .group .verdict ≡ Sound
+      → answer ≡ duplex.Given (p .group .length) (p .group .«had_errors») (p .«had_errors_b») → caller ≡ withBuilder (p .group .builder) c
+      → DuplexEnded c out answer caller after t
+  duplex-given (refused q) h v a k =
+      let z : _≡_ {A = ℕ} 0 1 = cc in
+      absurd (omega arith)
+  duplex-given (accepted d) h v a k =
+      (a ∙ rw (h .0 .1, h .0 .2, h .1), (k ∙ ap (λ (b : ConsensusBaseBuilder). withBuilder b c) (h .0 .3), h .0 .4))

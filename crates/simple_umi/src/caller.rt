@@ -1,7 +1,6 @@
 // The caller of a set whose strings have one length.
 ghost use mathlib.Core.Path.{_≡_};
 ghost use Prim.Native.Nat.{_≤_};
-ghost use lib.ListN.{take};
 ghost use Rattle.refusals.specs.Refusals.{numberIn};
 ghost use Rattle.refusals.specs.Result.{andThen};
 ghost use Rattle.umi_column.specs.Dna.{isDnaBase};
@@ -9,14 +8,14 @@ ghost use Rattle.simple_umi.specs.Consensus.{callerAt, defaultCaller, wi
 ghost use Rattle.simple_umi.specs.Answers.{roomFor, callConsensusIn, consensusUmisIn, answerOf, answerNumber, answerLength, bufferAfter, callerAfter};
 ghost use Rattle.simple_umi.specs.Places.{Trimmed, stringsAt};
 use crate::answers::Answer;
-use crate::family::alike;
+use crate::group::alike;
 use crate::group::consensus_group;
-use crate::group::put;
 use base_builder::ConsensusBaseBuilder;
 use phred::PhredScore;
 use refusals::Refusal;
 use refusals::Verdict;
 use string_set::Reading;
+use string_set::read_places;
 
 // Keeps no tables: those of its rates are meant.
 pub struct SimpleConsensusCaller {
@@ -80,16 +79,14 @@ impl SimpleConsensusCaller {
         ensures short { λ r. ⌜ answerLength (r .answer) ≤ 255 ⌝ }
         ensures number { λ r. ⌜ answerNumber (r .answer) ≡ numberIn (callConsensusIn self (now (set .entry)) (now (out .entry))) ⌝ }
     {
-        let read = string_set::read(set);
-        let reading = read.reading;
-        let places = read.places;
-        match reading {
+        let mut places = [0; 255];
+        match read_places(set, &mut places) {
             Reading::Refused(r) => refused(self, r),
             Reading::Strings(n) => {
                 if n == 0 {
                     return refused(self, Refusal::NoStrings);
                 }
-                call_strings(self, set, &places, n, out)
+                call_strings(self, set, &places[..n], out)
             }
         }
     }
@@ -126,23 +123,23 @@ fn refused(caller: SimpleConsensusCaller, refusal: Refusal) -> Consensus
 fn call_strings(
     caller: SimpleConsensusCaller,
     set: &[u8],
-    places: &[usize; 255],
-    count: usize,
+    places: &[usize],
     out: &mut [u8],
 ) -> Consensus
-    requires { ⌜ (count ≤ 255) × Trimmed 0 (now set) (now places) count ⌝ }
-    ensures answer { λ r. ⌜ r .answer ≡ answerOf (andThen (umisOf caller (stringsAt 0 (now (set .entry)) (take count (now (places .entry))))) (roomFor (now (out .entry)))) ⌝ }
-    ensures caller { λ r. ⌜ r .caller ≡ callerAfter caller (andThen (umisOf caller (stringsAt 0 (now (set .entry)) (take count (now (places .entry))))) (roomFor (now (out .entry)))) ⌝ }
-    ensures lent { λ _. ⌜ now (out .exit) ≡ bufferAfter (now (out .entry)) (andThen (umisOf caller (stringsAt 0 (now (set .entry)) (take count (now (places .entry))))) (roomFor (now (out .entry)))) ⌝ }
+    requires { ⌜ Trimmed 0 (now set) (now places) ⌝ }
+    ensures answer { λ r. ⌜ r .answer ≡ answerOf (andThen (umisOf caller (stringsAt 0 (now (set .entry)) (now (places .entry)))) (roomFor (now (out .entry)))) ⌝ }
+    ensures caller { λ r. ⌜ r .caller ≡ callerAfter caller (andThen (umisOf caller (stringsAt 0 (now (set .entry)) (now (places .entry)))) (roomFor (now (out .entry)))) ⌝ }
+    ensures lent { λ _. ⌜ now (out .exit) ≡ bufferAfter (now (out .entry)) (andThen (umisOf caller (stringsAt 0 (now (set .entry)) (now (places .entry)))) (roomFor (now (out .entry)))) ⌝ }
     ensures short { λ r. ⌜ answerLength (r .answer) ≤ 255 ⌝ }
 {
-    if !alike(set, places, count) {
+    if !alike(set, places) {
         return refused(caller, Refusal::LengthsDiffer);
     }
-    let group = consensus_group(caller, set, places, count, 0);
+    let group = consensus_group(caller, set, places, 0, out);
+    let verdict = group.verdict;
     let n = group.length;
     let builder = group.builder;
-    match put(out, group) {
+    match verdict {
         Verdict::Refused(r) => refused(caller, r),
         Verdict::Sound => Consensus {
             caller: with_builder(caller, builder),
@@ -158,13 +155,11 @@ pub fn consensus_umis(set: &[u8], out: &mut [u8]) -> Answer
     ensures short { λ r. ⌜ answerLength r ≤ 255 ⌝ }
     ensures number { λ r. ⌜ answerNumber r ≡ numberIn (consensusUmisIn (now (set .entry)) (now (out .entry))) ⌝ }
 {
-    let read = string_set::read(set);
-    let reading = read.reading;
-    let places = read.places;
-    match reading {
+    let mut places = [0; 255];
+    match read_places(set, &mut places) {
         Reading::Refused(r) => Answer::Refused(r),
         Reading::Strings(n) => {
-            call_strings(SimpleConsensusCaller::default(), set, &places, n, out).answer
+            call_strings(SimpleConsensusCaller::default(), set, &places[..n], out).answer
         }
     }
 }

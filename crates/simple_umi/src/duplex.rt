@@ -3,26 +3,21 @@ ghost use mathlib.Core.Path.{_≡_};
 ghost use Prim.Native.Nat.{_+_, _≤_};
 ghost use lib.ListN.{length, take};
 ghost use Rattle.lent_bytes.specs.Lists.{byteAt};
-ghost use Rattle.refusals.specs.declared.Verdict.the-variants.{Sound};
-ghost use Rattle.refusals.specs.Result.{accepted, andThen};
+ghost use Rattle.refusals.specs.Result.{judged, andThen};
 ghost use Rattle.simple_umi.specs.Consensus.{consensusOf};
-ghost use Rattle.simple_umi.specs.Duplex.{endsIn, strandOf, paired as pairedOf, duplexOf};
-ghost use Rattle.simple_umi.specs.Places.{Trimmed, trimmedAt, stringsAt, groupFound, groupResult, pairResult};
+ghost use Rattle.simple_umi.specs.Duplex.{endsIn, strandOf, duplexOf};
+ghost use Rattle.simple_umi.specs.Places.{Trimmed, trimmedAt, stringsAt, Gave, bothFound, roomForBoth, GaveBoth};
 use crate::caller::SimpleConsensusCaller;
 use crate::caller::with_builder;
 use crate::group::Group;
 use crate::group::consensus_group;
+use crate::group::refused_group;
 use lent_bytes::wide;
+use lent_bytes::write_front;
+use refusals::Refusal;
 use refusals::Verdict;
 
-// The places of a strand's strings.
-pub struct Strand {
-    pub places: [usize; 255],
-    pub count: usize,
-}
-
-// What both strands give: /A's text and flag, or /B's text where /A's is empty, with /B's verdict and builder;
-// and /B's flag.
+// What both strands give: /B's verdict and builder with /A's flag and the text's length; and /B's flag.
 pub struct Pair {
     pub group: Group,
     pub had_errors_b: bool,
@@ -43,103 +38,104 @@ fn ends_in(set: &[u8], place: usize, letter: u8) -> bool
     set[place + n] == letter
 }
 
-fn strand_places(set: &[u8], places: &[usize; 255], count: usize, letter: u8) -> Strand
-    requires { ⌜ (count ≤ 255) × Trimmed 0 (now set) (now places) count ⌝ }
-    ensures strings { λ r. ⌜ stringsAt 2 (now (set .entry)) (take (r .count) (r .places)) ≡ strandOf letter (stringsAt 0 (now (set .entry)) (take count (now (places .entry)))) ⌝ }
-    ensures inside { λ r. ⌜ (r .count ≤ 255) × Trimmed 2 (now (set .entry)) (r .places) (r .count) ⌝ }
+// The places of a strand's strings, into the lent ones, and how many there are.
+fn strand_places(set: &[u8], places: &[usize], letter: u8, kept: &mut [usize]) -> usize
+    requires { ⌜ (length (now places) ≤ length (now kept)) × Trimmed 0 (now set) (now places) ⌝ }
+    ensures strings { λ r. ⌜ stringsAt 2 (now (set .entry)) (take r (now (kept .exit))) ≡ strandOf letter (stringsAt 0 (now (set .entry)) (now (places .entry))) ⌝ }
+    ensures inside { λ r. ⌜ (r ≤ length (now (kept .exit))) × Trimmed 2 (now (set .entry)) (take r (now (kept .exit))) ⌝ }
 {
-    let mut kept = [0usize; 255];
     let mut n = 0;
     let mut k = 0;
-    while k < count {
+    while k < places.len() {
         if ends_in(set, places[k], letter) {
             kept[n] = places[k];
             n += 1;
         }
         k += 1;
     }
-    Strand {
-        places: kept,
-        count: n,
-    }
+    n
+}
+
+// One strand as `consensus` treats a set, with a text that holds any answer.
+fn strand_group(
+    caller: SimpleConsensusCaller,
+    set: &[u8],
+    places: &[usize],
+    letter: u8,
+    text: &mut [u8],
+) -> Group
+    requires { ⌜ (255 ≤ length (now text)) × Trimmed 0 (now set) (now places) ⌝ }
+    ensures given { λ r. ⌜ Gave r (now (text .entry)) (now (text .exit)) (consensusOf caller (strandOf letter (stringsAt 0 (now (set .entry)) (now (places .entry))))) ⌝ }
+    ensures short { λ r. ⌜ r .length ≤ 255 ⌝ }
+{
+    let mut kept = [0; 255];
+    let n = strand_places(set, places, letter, &mut kept);
+    consensus_group(caller, set, &kept[..n], 2, text)
 }
 
 // Both strands, /A first.
 pub(crate) fn duplex_group(
     caller: SimpleConsensusCaller,
     set: &[u8],
-    places: &[usize; 255],
-    count: usize,
+    places: &[usize],
+    out: &mut [u8],
 ) -> Pair
-    requires { ⌜ (count ≤ 255) × Trimmed 0 (now set) (now places) count ⌝ }
-    ensures found { λ r. ⌜ pairResult r ≡ duplexOf caller (stringsAt 0 (now (set .entry)) (take count (now (places .entry)))) ⌝ }
+    requires { ⌜ Trimmed 0 (now set) (now places) ⌝ }
+    ensures given { λ r. ⌜ GaveBoth r (now (out .entry)) (now (out .exit)) (andThen (duplexOf caller (stringsAt 0 (now (set .entry)) (now (places .entry)))) (roomForBoth (now (out .entry)))) ⌝ }
     ensures short { λ r. ⌜ r .group .length ≤ 255 ⌝ }
 {
-    let first = strand_group(caller, set, places, count, b'A');
-    let verdict = first.verdict;
+    let mut text = [0; 255];
+    let a = strand_group(caller, set, places, b'A', &mut text);
+    let verdict = a.verdict;
     match verdict {
         Verdict::Refused(_) => Pair {
-            group: first,
+            group: a,
             had_errors_b: false,
         },
         Verdict::Sound => {
-            let builder = first.builder;
+            let builder = a.builder;
             let caller = with_builder(caller, builder);
-            paired(first, strand_group(caller, set, places, count, b'B'))
+            let mut other = [0; 255];
+            let b = strand_group(caller, set, places, b'B', &mut other);
+            let n = a.length;
+            if n == 0 {
+                let m = b.length;
+                return put_pair(a, b, &other[..m], out);
+            }
+            put_pair(a, b, &text[..n], out)
         }
     }
 }
 
-// One strand as `consensus` treats a set.
-fn strand_group(
-    caller: SimpleConsensusCaller,
-    set: &[u8],
-    places: &[usize; 255],
-    count: usize,
-    letter: u8,
-) -> Group
-    requires { ⌜ (count ≤ 255) × Trimmed 0 (now set) (now places) count ⌝ }
-    ensures found { λ r. ⌜ groupResult r ≡ consensusOf caller (strandOf letter (stringsAt 0 (now (set .entry)) (take count (now (places .entry))))) ⌝ }
-    ensures short { λ r. ⌜ r .length ≤ 255 ⌝ }
-{
-    let found = strand_places(set, places, count, letter);
-    let kept = found.places;
-    let n = found.count;
-    consensus_group(caller, set, &kept, n, 2)
-}
-
-// /A's text, or /B's where that is empty.
-fn paired(a: Group, b: Group) -> Pair
-    requires { ⌜ (a .verdict ≡ Sound) × (a .length ≤ 255) × (b .length ≤ 255) ⌝ }
-    ensures found { λ r. ⌜ pairResult r ≡ andThen (groupResult b) (λ f. accepted (pairedOf (groupFound a) f)) ⌝ }
+// The text of both strands into the buffer, if /B is not refused and the text fits.
+fn put_pair(a: Group, b: Group, text: &[u8], out: &mut [u8]) -> Pair
+    requires { ⌜ (b .length ≤ 255) × (length (now text) ≤ 255) ⌝ }
+    ensures given { λ r. ⌜ GaveBoth r (now (out .entry)) (now (out .exit)) (andThen (judged (b .verdict) (bothFound a b (now (text .entry)))) (roomForBoth (now (out .entry)))) ⌝ }
     ensures short { λ r. ⌜ r .group .length ≤ 255 ⌝ }
 {
     let verdict = b.verdict;
     let builder = b.builder;
-    let length = a.length;
-    if length == 0 {
-        let text = b.text;
-        let length = b.length;
-        return Pair {
-            group: Group {
-                verdict,
-                text,
-                length,
-                had_errors: a.had_errors,
-                builder,
-            },
-            had_errors_b: b.had_errors,
-        };
-    }
-    let text = a.text;
-    Pair {
-        group: Group {
-            verdict,
-            text,
-            length,
-            had_errors: a.had_errors,
-            builder,
+    match verdict {
+        Verdict::Refused(_) => Pair {
+            group: b,
+            had_errors_b: false,
         },
-        had_errors_b: b.had_errors,
+        Verdict::Sound => {
+            if !write_front(out, text) {
+                return Pair {
+                    group: refused_group(builder, Refusal::BufferTooShort),
+                    had_errors_b: false,
+                };
+            }
+            Pair {
+                group: Group {
+                    verdict,
+                    length: text.len(),
+                    had_errors: a.had_errors,
+                    builder,
+                },
+                had_errors_b: b.had_errors,
+            }
+        }
     }
 }

@@ -3,7 +3,6 @@
 mod answers;
 mod caller;
 mod duplex;
-mod family;
 mod group;
 mod umi_caller;
 

@@ -14,10 +14,10 @@ use crate::caller::SimpleConsensusCaller;
 use crate::caller::with_builder;
 use crate::duplex::duplex_group;
 use crate::group::consensus_group;
-use crate::group::put;
 use refusals::Refusal;
 use refusals::Verdict;
 use string_set::Reading;
+use string_set::read_places;
 
 pub struct SimpleUmiConsensusCaller {
     pub caller: SimpleConsensusCaller,
@@ -61,17 +61,16 @@ impl SimpleUmiConsensusCaller {
         ensures fits { λ _. ⌜ (255 ≤ length (now (out .entry)) → consensusIn (self .caller) (now (set .entry)) (now (out .entry)) ≡ andThen (readSet (now (set .entry))) (consensusOf (self .caller))) ⌝ }
     {
         let caller = self.caller;
-        let read = string_set::read(set);
-        let reading = read.reading;
-        let places = read.places;
-        match reading {
+        let mut places = [0; 255];
+        match read_places(set, &mut places) {
             Reading::Refused(r) => flagged_refused(caller, r),
             Reading::Strings(n) => {
-                let group = consensus_group(caller, set, &places, n, 0);
+                let group = consensus_group(caller, set, &places[..n], 0, out);
+                let verdict = group.verdict;
                 let length = group.length;
                 let had_errors = group.had_errors;
                 let builder = group.builder;
-                match put(out, group) {
+                match verdict {
                     Verdict::Refused(r) => flagged_refused(caller, r),
                     Verdict::Sound => FlaggedConsensus {
                         caller: Self {
@@ -94,19 +93,18 @@ impl SimpleUmiConsensusCaller {
         ensures number { λ r. ⌜ duplexNumber (r .answer) ≡ numberIn (duplexIn (self .caller) (now (set .entry)) (now (out .entry))) ⌝ }
     {
         let caller = self.caller;
-        let read = string_set::read(set);
-        let reading = read.reading;
-        let places = read.places;
-        match reading {
+        let mut places = [0; 255];
+        match read_places(set, &mut places) {
             Reading::Refused(r) => duplex_refused(caller, r),
             Reading::Strings(n) => {
-                let pair = duplex_group(caller, set, &places, n);
+                let pair = duplex_group(caller, set, &places[..n], out);
                 let group = pair.group;
                 let b_errors = pair.had_errors_b;
+                let verdict = group.verdict;
                 let length = group.length;
                 let a_errors = group.had_errors;
                 let builder = group.builder;
-                match put(out, group) {
+                match verdict {
                     Verdict::Refused(r) => duplex_refused(caller, r),
                     Verdict::Sound => DuplexConsensus {
                         caller: Self {

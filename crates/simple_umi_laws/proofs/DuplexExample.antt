@@ -27,7 +27,7 @@ use Rattle.simple_umi.specs.Verdicts.{firstRefusal, familyVerdict, consensusVer
 use Rattle.simple_umi.specs.Consensus.{Found, callerAt, defaultCaller, withBuilder, builderAt, byteOf, familyFound, firstFound, found, consensusOf}
 use Rattle.simple_umi.specs.Duplex.{endsIn, strandOf, duplexOf}
 use Rattle.simple_umi.specs.Answers.{roomFor, duplexIn}
-use Rattle.simple_umi.specs.Places.{bytesBy}
+use Rattle.umi_family.specs.Family.{bytesBy}
 use Rattle.simple_umi_laws.specs.DuplexLaws.{pairing}
 use Rattle.simple_umi_laws.specs.DuplexExample.{exampleSet, Example}
 use Rattle.simple_umi.proofs.Groups.{bytes-by}

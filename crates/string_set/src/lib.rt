@@ -27,15 +27,6 @@ enum Next {
     Past,
 }
 
-fn refused(refusal: Refusal) -> StringSet
-    ensures { λ r. ⌜ r .reading ≡ Reading.Refused refusal ⌝ }
-{
-    StringSet {
-        reading: Reading::Refused(refusal),
-        places: [0; 255],
-    }
-}
-
 // The place after the string whose length byte is at this one, if the bytes reach so far.
 fn after_string(set: &[u8], at: usize) -> Next
     requires { ⌜ at ≤ length (now set) ⌝ }
@@ -52,17 +43,18 @@ fn after_string(set: &[u8], at: usize) -> Next
 }
 
 // The strings after the count byte, n of them.
-fn walk(set: &[u8], n: usize) -> StringSet
+fn walk(set: &[u8], n: usize, places: &mut [usize; 255]) -> Reading
     requires { ⌜ (1 ≤ length (now set)) × (n < 256) ⌝ }
-    ensures reading { λ r. ⌜ r .reading ≡ readingOf (walked n (now (set .entry))) ⌝ }
-    ensures places { λ r. ⌜ Placed (now (set .entry)) (walked n (now (set .entry))) (r .places) ⌝ }
+    ensures reading { λ r. ⌜ r ≡ readingOf (walked n (now (set .entry))) ⌝ }
+    ensures placed { λ _. ⌜ Placed (now (set .entry)) (walked n (now (set .entry))) (now (places .exit)) ⌝ }
 {
-    let mut places = [0usize; 255];
+    // What lies behind a reference has no length to a proof until it is stored whole.
+    *places = [0; 255];
     let mut at = 1;
     let mut k = 0;
     while k < n {
         match after_string(set, at) {
-            Next::Past => return refused(Refusal::CutOff),
+            Next::Past => return Reading::Refused(Refusal::CutOff),
             Next::At(end) => {
                 places[k] = at;
                 at = end;
@@ -71,25 +63,33 @@ fn walk(set: &[u8], n: usize) -> StringSet
         k += 1;
     }
     if at < set.len() {
-        return refused(Refusal::CutOff);
+        return Reading::Refused(Refusal::CutOff);
     }
-    StringSet {
-        reading: Reading::Strings(n),
-        places,
-    }
+    Reading::Strings(n)
 }
 
-// Reads a lone set: how many strings there are, and where each is.
+// Reads a lone set: how many strings there are, and into lent places where each is.
+pub fn read_places(set: &[u8], places: &mut [usize; 255]) -> Reading
+    ensures reading { λ r. ⌜ r ≡ readingOf (readSet (now (set .entry))) ⌝ }
+    ensures placed { λ _. ⌜ Placed (now (set .entry)) (readSet (now (set .entry))) (now (places .exit)) ⌝ }
+    ensures number { λ r. ⌜ readingNumber r ≡ numberIn (readSet (now (set .entry))) ⌝ }
+{
+    if 65536 < set.len() {
+        return Reading::Refused(Refusal::FileTooLong);
+    }
+    if set.len() == 0 {
+        return Reading::Refused(Refusal::CutOff);
+    }
+    walk(set, wide(set[0]), places)
+}
+
+// The same with the places in its answer.
 pub fn read(set: &[u8]) -> StringSet
     ensures reading { λ r. ⌜ r .reading ≡ readingOf (readSet (now (set .entry))) ⌝ }
     ensures places { λ r. ⌜ Placed (now (set .entry)) (readSet (now (set .entry))) (r .places) ⌝ }
     ensures number { λ r. ⌜ readingNumber (r .reading) ≡ numberIn (readSet (now (set .entry))) ⌝ }
 {
-    if 65536 < set.len() {
-        return refused(Refusal::FileTooLong);
-    }
-    if set.len() == 0 {
-        return refused(Refusal::CutOff);
-    }
-    walk(set, wide(set[0]))
+    let mut places = [0; 255];
+    let reading = read_places(set, &mut places);
+    StringSet { reading, places }
 }

@@ -1,4 +1,5 @@
 pub mod Added
 pub mod Columns
+pub mod SumLaws
 pub mod ColumnVerdicts
 pub mod DnaClaims

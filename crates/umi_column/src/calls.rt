@@ -1,9 +1,12 @@
 // The builder after a column, and the byte that the column gives.
 ghost use mathlib.Core.Path.{_≡_};
 ghost use Rattle.umi_column.specs.Calls.{addedAll, namedByte};
+ghost use Rattle.umi_column.specs.Sums.{byteBy};
 use crate::dna::is_dna_base;
+use crate::sums::LaneSums;
 use base_builder::ConsensusBaseBuilder;
 use base_builder::add_entry;
+use tie_rules::TieRule;
 use tie_rules::base_of;
 use tie_rules::unique_max_index_with;
 
@@ -27,15 +30,30 @@ pub fn add_column(
     after
 }
 
-// The byte of a column whose first byte is this one, by the builder after it. The base of a call after a
-// reset is that of the rule's lane, so that neither thresholds nor exponentials are needed.
-pub fn consensus_byte(after: ConsensusBaseBuilder, first: u8) -> u8
-    ensures { λ r. ⌜ r ≡ namedByte after first ⌝ }
+// The byte of a column whose first byte is this one, by its lanes. The base of a call after a reset is
+// that of the rule's lane, so that neither thresholds nor exponentials are needed.
+fn named(likelihoods: [f64; 4], rule: TieRule, first: u8) -> u8
+    ensures { λ r. ⌜ r ≡ byteBy likelihoods rule first ⌝ }
 {
     if is_dna_base(first) {
-        let likelihoods = after.likelihoods;
-        let rule = after.tie_rule;
         return base_of(unique_max_index_with(likelihoods, rule));
     }
     first
+}
+
+// The same by the builder after the column.
+pub fn consensus_byte(after: ConsensusBaseBuilder, first: u8) -> u8
+    ensures { λ r. ⌜ r ≡ namedByte after first ⌝ }
+{
+    let likelihoods = after.likelihoods;
+    let rule = after.tie_rule;
+    named(likelihoods, rule, first)
+}
+
+// And by the sums of its lanes alone.
+pub fn sums_byte(sums: LaneSums, rule: TieRule, first: u8) -> u8
+    ensures { λ r. ⌜ r ≡ byteBy (sums .likelihoods) rule first ⌝ }
+{
+    let likelihoods = sums.likelihoods;
+    named(likelihoods, rule, first)
 }

@@ -1,9 +1,15 @@
 // One column of a family of UMI strings: the bytes that they have at one place.
 mod calls;
 mod dna;
+mod sums;
 mod verdicts;
 
 pub use calls::add_column;
 pub use calls::consensus_byte;
+pub use calls::sums_byte;
 pub use dna::is_dna_base;
+pub use sums::LaneSums;
+pub use sums::add_base;
+pub use sums::no_sums;
+pub use sums::window_of;
 pub use verdicts::column_verdict;

@@ -21,7 +21,7 @@ abbrev μ-loop : tie.MeasureT-loop
 μ-loop set n places₀ at₀ k₀ places at k = n - k
 
 loop-holds : tie.Need-loop-holds Inv-loop μ-loop
-loop-holds c = (omega arith, omega arith, refl, walk-first (c .before .args .set .now) (replicate 255 0) (c .before .args .n), (λ k h. absurd (not-suc-le-zero h)))
+loop-holds c = (omega arith, omega arith, refl, walk-first (c .before .before .args .set .now) (replicate 255 0) (c .before .before .args .n), (λ k h. absurd (not-suc-le-zero h)))
 
 after-string-requires : tie.Need-after-string-requires Inv-loop μ-loop
 after-string-requires c κs = search needs
@@ -29,17 +29,14 @@ after-string-requires c κs = search needs
 enum-told : tie.Need-enum-told Inv-loop μ-loop
 enum-told c = search needs
 
-refused-requires : tie.Need-refused-requires Inv-loop μ-loop
-refused-requires c κs = search needs
-
 returns : tie.Need-returns Inv-loop μ-loop
 returns c =
-    let l = c .before .before .before .before .before .loop in
+    let l = c .before .before .before .before .loop in
     let s = c .before .before .before .before .before .before .before .args .set .now in
     let n = c .before .before .before .before .before .before .before .args .n in
-    let r = c .before .before .before .after-string in
-    let past = said-past s (l .at) (r .result) (r .ensures) (c .before .enum-told .given .1) in
-    refused-said s _ _ _ _ (c .refused .ensures) (cut-off s n (sym (l .inv .3) ∙ walk-cut s (l .places) n (l .k) (l .at) (omega arith) past))
+    let r = c .before .before .after-string in
+    let past = said-past s (l .at) (r .result) (r .ensures) (c .enum-told .given .1) in
+    refused-said s _ _ _ _ refl (cut-off s n (sym (l .inv .3) ∙ walk-cut s (l .places) n (l .k) (l .at) (omega arith) past))
 
 enum-known-end : tie.Need-enum-known-end Inv-loop μ-loop
 enum-known-end c = search needs
@@ -47,8 +44,8 @@ enum-known-end c = search needs
 mul-places : tie.Need-mul-places Inv-loop μ-loop
 mul-places c = search needs
 
-array-write-places : tie.Need-array-write-places Inv-loop μ-loop
-array-write-places c = search needs
+element-write-places : tie.Need-element-write-places Inv-loop μ-loop
+element-write-places c = search needs
 
 add-k : tie.Need-add-k Inv-loop μ-loop
 add-k c = omega arith
@@ -59,8 +56,8 @@ loop-less c = omega arith
 loop-again : tie.Need-loop-again Inv-loop μ-loop
 loop-again c =
     let l = c .before .before .before .before .before .loop in
-    let s = c .before .before .before .before .before .before .before .args .set .now in
-    let n = c .before .before .before .before .before .before .before .args .n in
+    let s = c .before .before .before .before .before .before .before .before .args .set .now in
+    let n = c .before .before .before .before .before .before .before .before .args .n in
     let r = c .before .before .before .after-string in
     let at = said-at s (l .at) (r .result) (r .ensures) (c .before .end .given .0 .0) (c .before .end .given .1) in (
       omega arith,
@@ -70,22 +67,19 @@ loop-again c =
       inside-more s (l .places) n (l .k) (l .at) (omega arith) (at .1) (l .inv .4),
     )
 
-refused-requires-2 : tie.Need-refused-requires-2 Inv-loop μ-loop
-refused-requires-2 c κs = search needs
-
 returns-2 : tie.Need-returns-2 Inv-loop μ-loop
 returns-2 c =
-    let l = c .before .before .before .loop in
+    let l = c .before .before .loop in
     let s = c .before .before .before .before .before .args .set .now in
     let n = c .before .before .before .before .before .args .n in
     let all = sym (l .inv .3) ∙ walk-done s (l .places) n (l .k) (l .at) (omega arith) in
-    refused-said s _ _ _ _ (c .refused2 .ensures) (left-over s n _ (l .at) all (omega arith))
+    refused-said s _ _ _ _ refl (left-over s n _ (l .at) all (omega arith))
 
 returns-3 : tie.Need-returns-3 Inv-loop μ-loop
 returns-3 c =
     let l = c .before .before .loop in
-    let s = c .before .before .before .before .args .set .now in
-    let n = c .before .before .before .before .args .n in
+    let s = c .before .before .before .before .before .args .set .now in
+    let n = c .before .before .before .before .before .args .n in
     let all = sym (l .inv .3) ∙ walk-done s (l .places) n (l .k) (l .at) (omega arith) in
     accepted-said s (l .places) _ n (l .k) (all-read s n _ (l .at) all (omega arith)) (omega arith) (omega arith) (omega arith) (omega arith) (l .inv .4)
 
@@ -98,14 +92,12 @@ walk-spec =
     loop-holds
     after-string-requires
     enum-told
-    refused-requires
     returns
     enum-known-end
     mul-places
-    array-write-places
+    element-write-places
     add-k
     loop-less
     loop-again
-    refused-requires-2
     returns-2
     returns-3)

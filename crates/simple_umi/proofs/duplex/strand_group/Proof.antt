@@ -1,21 +1,45 @@
--- `strand_group`: the group of the strings that were kept. Assumes nothing.
-use mathlib.Core.Path.{_∙_, ap}
+-- `strand_group`: the group of the strings that were kept; a text of 255 bytes holds any answer. Assumes nothing.
+use mathlib.Core.Path.{sym}
 use borrow.Author.Needs.{needs}
-use Rattle.simple_umi.specs.Consensus.{consensusOf}
+use lib.Seq.{length-take-le}
 use Rattle.simple_umi.proofs.duplex.strand_group.Statement.{statement}
 use Rattle.simple_umi.proofs.duplex.strand_group.Tie as tie
+
+slice-aggregate-strand-places : tie.Need-slice-aggregate-strand-places
+slice-aggregate-strand-places c = search needs
 
 strand-places-requires : tie.Need-strand-places-requires
 strand-places-requires c κs = search needs
 
+array-share-prefix-kept : tie.Need-array-share-prefix-kept
+array-share-prefix-kept c = c .before .strand-places .ensures .1 .0
+
+slice-aggregate-consensus-group : tie.Need-slice-aggregate-consensus-group
+slice-aggregate-consensus-group c =
+    let p = c .before .before .strand-places in sym (length-take-le (p .result) (p .last .1 .1 .1 .0) (p .ensures .1 .0))
+
 consensus-group-requires : tie.Need-consensus-group-requires
-consensus-group-requires c κs = search needs
+consensus-group-requires c κs = c .before .before .before .strand-places .ensures .1 .1
+
+same-length : tie.Need-same-length
+same-length c = search needs
 
 returns : tie.Need-returns
 returns c =
-    let g = c .consensus-group .ensures in
-    let a = c .before .before .before .before .before .args in
-    (g .0 ∙ ap (consensusOf (a .caller)) (c .before .before .before .strand-places .ensures .0), g .1)
+    let k = c .before .before .consensus-group in
+    let s = c .before .before .before .before .before .before .before .before .before .before .before in
+    let p = c .before .before .before .before .before .before .strand-places in
+    let given = rw (k .ensures .1 .1 (s .pre .0), p .ensures .0) at (k .ensures .0) in
+    (given, k .ensures .1 .0)
 
 pub strand-group-spec : {M : Type 1} → statement M
-strand-group-spec = tie.close (tie.spec strand-places-requires consensus-group-requires returns)
+strand-group-spec =
+    tie.close
+    (tie.spec
+    slice-aggregate-strand-places
+    strand-places-requires
+    array-share-prefix-kept
+    slice-aggregate-consensus-group
+    consensus-group-requires
+    same-length
+    returns)

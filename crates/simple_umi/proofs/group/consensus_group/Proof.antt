@@ -1,22 +1,32 @@
 -- `consensus_group`: no string, a family, and otherwise the first string. Assumes nothing.
-use mathlib.Core.Path.{_∙_}
+use mathlib.Core.Path.{_≡_, refl, sym, _∙_, ap}
 use mathlib.Core.Logic.{inl, inr, ⊎-elim}
 use Prim.Native.Nat.{_+_, _-_, _≤_, _<_}
 use native.Mathlib.Omega.{arith}
+use borrow.Author.Tests.{leb-true, leb-false, not-true, not-false}
 use borrow.Author.Needs.{needs}
-use lib.ListN.{length}
+use lib.ListN.{length, take, drop, length-drop}
+use lib.Seq.{length-take-le}
 use Rattle.lent_bytes.specs.Lists.{byteAt}
-use Rattle.simple_umi.proofs.Groups.{first-inside, first-whole, lengths-fit, group-none, group-family, group-fits, group-first}
+use Rattle.refusals.specs.declared.Verdict.the-variants.{Sound}
+use Rattle.refusals.specs.Result.{Result, andThen}
+use Rattle.umi_family.specs.Rows.{rowsAt}
+use Rattle.umi_family.proofs.RowLoops.{row-lent}
+use Rattle.simple_umi.specs.Answers.{roomFor}
+use Rattle.simple_umi.specs.Verdicts.{familyVerdict}
+use Rattle.simple_umi.specs.Consensus.{Found, familyFound}
+use Rattle.simple_umi.proofs.Groups.{whole-strings, first-inside, first-whole, group-none, group-family, group-fits, group-first, found-length}
+use Rattle.simple_umi.proofs.Replies.{room-judged, none-written, gave-as, gave-text, gave-short}
 use Rattle.simple_umi.proofs.group.consensus_group.Statement.{statement}
 use Rattle.simple_umi.proofs.group.consensus_group.Tie as tie
 
 -- there is a first string
-some : (c : tie.Else1) → 0 < c .before .before .before .args .count
+some : (c : tie.Else1) → 0 < length (c .before .before .before .before .before .args .places .now)
 some c = omega (arith, c .if1 .left)
 
 -- and it is whole
 abbrev startOf : tie.After-wide → tie.Start
-startOf c = c .before .before .before .before .before .before
+startOf c = c .before .before .before .before .before .before .before .before
 
 whole : (c : tie.After-wide)
     → (startOf c .args .trim ≤ c .wide .result)
@@ -24,22 +34,22 @@ whole : (c : tie.After-wide)
 whole c =
     let s = startOf c in
     let a = s .args in
-    first-whole (a .trim) (a .set .now) (a .places .now) (a .count) (s .pre .1) (some (c .before .before .before)) (c .wide .result) (c .wide .ensures .0)
+    first-whole (a .trim) (a .set .now) (a .places .now) (s .pre) (some (c .before .before .before)) (c .wide .result) (c .wide .ensures .0)
 
 returns : tie.Need-returns
 returns c =
-    let s = c .before .before .before in
+    let s = c .before .before .before .before .before in
     let a = s .args in
-    (group-none (a .caller) (a .trim) (a .set .now) (a .places .now) (a .count) (s .pre .1) (c .if1 .taken), omega arith)
+    let out = a .out .now in
+    let e = group-none (a .caller) (a .trim) (a .set .now) (a .places .now) (c .if1 .taken) in
+    (gave-text _ out out _ _ e (none-written out) (omega arith) refl refl refl refl, (omega arith, λ h. room-judged out _ Sound _ e (omega arith)))
 
-element-copy-out-first : tie.Need-element-copy-out-first
-element-copy-out-first c = search needs
+shared-slice-read-first : tie.Need-shared-slice-read-first
+shared-slice-read-first c = search needs
 
 shared-slice-read-wide : tie.Need-shared-slice-read-wide
 shared-slice-read-wide c =
-    let s = c .before .before .before .before .before in
-    let a = s .args in
-    first-inside (a .trim) (a .set .now) (a .places .now) (a .count) (s .pre .1) (some (c .before .before))
+    let s = c .before .before .before .before .before .before .before in let a = s .args in first-inside (a .trim) (a .set .now) (a .places .now) (s .pre) (some (c .before .before))
 
 wide-requires : tie.Need-wide-requires
 wide-requires c κs = search needs
@@ -49,52 +59,100 @@ sub-width c = whole c .0
 
 alike-requires : tie.Need-alike-requires
 alike-requires c κs =
-    let s = c .before .before .before .before .before .before in
-    let a = s .args in
-    (s .pre .0, lengths-fit (a .trim) (a .set .now) (a .places .now) (a .count) (s .pre .1))
+    let s = c .before .before .before .before .before .before .before .before in let a = s .args in whole-strings (a .trim) (a .set .now) (a .places .now) (s .pre)
 
 family-requires : tie.Need-family-requires
 family-requires c κs =
-    let s = c .before .before .before .before .before .before .before .before .before in
+    let s = c .before .before .before .before .before .before .before .before .before .before .before .before in
     let a = s .args in
-    let w = c .before .before .before .wide in
-    let k = c .before .before .alike in (
-      c .before .if2 .taken,
-      s .pre .0,
-      omega (arith, w .ensures .1),
-      group-fits (a .caller) (a .trim) (a .set .now) (a .places .now) (a .count) (s .pre .1) (w .result) (w .ensures .0) (k .result) (k .ensures)
-          (c .before .if2 .taken) (c .if3 .taken),
-    )
+    let w = c .before .before .before .before .wide in
+    let k = c .before .before .before .alike in
+    (omega (arith, w .ensures .1), group-fits (a .caller) (a .trim) (a .set .now) (a .places .now) (s .pre) (w .result) (w .ensures .0) (k .result) (k .ensures) (c .before .before .if2 .taken) (c .before .if3 .taken))
+
+same-length : tie.Need-same-length
+same-length c = search needs
 
 returns-2 : tie.Need-returns-2
 returns-2 c =
-    let t = c .before in
-    let s = t .before .before .before .before .before .before .before .before .before in
+    let s = c .before .before .before .before .before .before .before .before .before .before .before .before .before .before .before in
     let a = s .args in
-    let w = t .before .before .before .wide in
-    let k = t .before .before .alike in (
-      c .family .ensures .0
-          ∙ group-family (a .caller) (a .trim) (a .set .now) (a .places .now) (a .count) (s .pre .1) (w .result) (w .ensures .0) (k .result) (k .ensures)
-          (t .before .if2 .taken) (t .if3 .taken),
-      c .family .ensures .1,
+    let out = a .out .now in
+    let w = c .before .before .before .before .before .before .before .wide in
+    let k = c .before .before .before .before .before .before .alike in
+    let f = c .before .before .family in
+    let e = group-family (a .caller) (a .trim) (a .set .now) (a .places .now) (s .pre) (w .result) (w .ensures .0) (k .result) (k .ensures) (c .before .before .before .before .before .if2 .taken) (c .before .before .before .before .if3 .taken) in
+    let n = w .result - a .trim in
+    let rows = rowsAt n (a .set .now) (a .places .now) in
+    let size = found-length (a .caller) n rows in (
+      gave-as (f .result) out (f .last .1 .1 .1 .1 .0) _ _ (ap (λ (t : Result Found). andThen t (roomFor out)) (sym e)) (f .ensures .0),
+      (f .ensures .1, λ h. room-judged out _ (familyVerdict n rows) (familyFound (a .caller) n rows) e (omega (arith, w .ensures .1))),
     )
 
-add-copied : tie.Need-add-copied
-add-copied c = omega (arith, whole (c .before .before) .1)
+add-from : tie.Need-add-from
+add-from c = omega (arith, whole (c .before .before) .1)
 
-copied-requires : tie.Need-copied-requires
-copied-requires c κs = (omega (arith, c .before .before .wide .ensures .1), whole (c .before .before) .1)
+add-end : tie.Need-add-end
+add-end c = omega (arith, whole (c .before .before) .1)
+
+sub-write-front : tie.Need-sub-write-front
+sub-write-front c = search needs
+
+part-write-front-start : tie.Need-part-write-front-start
+part-write-front-start c = search needs
+
+part-write-front-end : tie.Need-part-write-front-end
+part-write-front-end c = omega (arith, whole (c .before .before .before) .1)
+
+write-front-requires : tie.Need-write-front-requires
+write-front-requires c κs = search needs
+
+refused-group-requires : tie.Need-refused-group-requires
+refused-group-requires c κs = search needs
+
+same-length-2 : tie.Need-same-length-2
+same-length-2 c = search needs
 
 returns-3 : tie.Need-returns-3
 returns-3 c =
-    let s = c .before .before .before .before .before .before .before .before .before in
+    let s = c .before .before .before .before .before .before .before .before .before .before .before .before .before .before .before .before .before in
     let a = s .args in
-    let w = c .before .before .before .wide in
-    let k = c .before .before .alike in
-    let way = ⊎-elim (λ t. inr (t .1 .left)) (λ t. inl (t .left)) (c .before .if2 .came) in (
-      group-first (a .caller) (a .trim) (a .set .now) (a .places .now) (a .count) (s .pre .1) (w .result) (w .ensures .0) (k .result) (k .ensures)
-          (some (c .before .before .before .before .before .before)) way _ (c .copied .ensures),
-      omega (arith, w .ensures .1),
+    let out = a .out .now in
+    let w = c .before .before .before .before .before .before .before .before .before .wide in
+    let k = c .before .before .before .before .before .before .before .before .alike in
+    let from = byteAt (a .places .now) 0 + 1 in
+    let n = w .result - a .trim in
+    let text = take n (drop from (a .set .now)) in
+    let way = ⊎-elim (λ t. inr (t .1 .left)) (λ t. inl (t .left)) (c .before .before .before .before .before .before .before .if2 .came) in
+    let e = group-first (a .caller) (a .trim) (a .set .now) (a .places .now) (s .pre) (w .result) (w .ensures .0) (k .result) (k .ensures) (some (c .before .before .before .before .before .before .before .before .before .before .before .before)) way text refl in
+    let size : length text ≡ n = length-take-le n (drop from (a .set .now)) (rw (length-drop from (a .set .now)) (omega (arith, whole (c .before .before .before .before .before .before .before .before .before) .1))) in
+    let p = c .before .before .before .before .write-front in
+    let reply = rw (row-lent (a .set .now) from n) at (p .ensures .0) in
+    let lent = rw (row-lent (a .set .now) from n) at (p .ensures .1) in (
+      gave-short (c .refused-group .result) out (p .last .0) _ _ e lent (leb-false _ _ (sym reply ∙ not-true _ (c .before .if4 .taken))) (c .refused-group .ensures .0),
+      (c .refused-group .ensures .1, λ h. room-judged out _ Sound _ e (omega (arith, w .ensures .1))),
+    )
+
+same-length-3 : tie.Need-same-length-3
+same-length-3 c = search needs
+
+returns-4 : tie.Need-returns-4
+returns-4 c =
+    let s = c .before .before .before .before .before .before .before .before .before .before .before .before .before .before .before .before in
+    let a = s .args in
+    let out = a .out .now in
+    let w = c .before .before .before .before .before .before .before .before .wide in
+    let k = c .before .before .before .before .before .before .before .alike in
+    let from = byteAt (a .places .now) 0 + 1 in
+    let n = w .result - a .trim in
+    let text = take n (drop from (a .set .now)) in
+    let way = ⊎-elim (λ t. inr (t .1 .left)) (λ t. inl (t .left)) (c .before .before .before .before .before .before .if2 .came) in
+    let e = group-first (a .caller) (a .trim) (a .set .now) (a .places .now) (s .pre) (w .result) (w .ensures .0) (k .result) (k .ensures) (some (c .before .before .before .before .before .before .before .before .before .before .before)) way text refl in
+    let size : length text ≡ n = length-take-le n (drop from (a .set .now)) (rw (length-drop from (a .set .now)) (omega (arith, whole (c .before .before .before .before .before .before .before .before) .1))) in
+    let p = c .before .before .before .write-front in
+    let reply = rw (row-lent (a .set .now) from n) at (p .ensures .0) in
+    let lent = rw (row-lent (a .set .now) from n) at (p .ensures .1) in (
+      gave-text _ out (p .last .0) _ _ e lent (leb-true _ _ (sym reply ∙ not-false _ (c .if4 .left))) refl (sym size) refl refl,
+      (omega (arith, w .ensures .1), λ h. room-judged out _ Sound _ e (omega (arith, w .ensures .1))),
     )
 
 pub consensus-group-spec : {M : Type 1} → statement M
@@ -102,13 +160,22 @@ consensus-group-spec =
     tie.close
     (tie.spec
     returns
-    element-copy-out-first
+    shared-slice-read-first
     shared-slice-read-wide
     wide-requires
     sub-width
     alike-requires
     family-requires
+    same-length
     returns-2
-    add-copied
-    copied-requires
-    returns-3)
+    add-from
+    add-end
+    sub-write-front
+    part-write-front-start
+    part-write-front-end
+    write-front-requires
+    refused-group-requires
+    same-length-2
+    returns-3
+    same-length-3
+    returns-4)

@@ -1,20 +1,13 @@
--- `family`: a refusal, or each column's byte by the two entries of the tables. Assumes nothing.
-use mathlib.Core.Path.{_≡_, sym, subst}
-use Prim.Native.Nat.{ℕ, _≤_}
+-- `family`: a verdict that refuses, a buffer that is too short, and the columns called into its front. Assumes nothing.
+use mathlib.Core.Path.{_≡_, sym}
+use native.Mathlib.Omega.{arith}
 use borrow.Author.Needs.{needs}
 use lib.ListN.{length, take}
-use Rattle.simple_umi.specs.Places.{Fits}
-use Rattle.simple_umi.proofs.Groups.{taken-inside, bytes-length, family-refused, family-found}
+use lib.Seq.{length-take-le}
+use Rattle.simple_umi.proofs.Groups.{called-found}
+use Rattle.simple_umi.proofs.Replies.{family-refused, family-short, family-given}
 use Rattle.simple_umi.proofs.group.family.Statement.{statement}
 use Rattle.simple_umi.proofs.group.family.Tie as tie
-
--- the text has a byte for each column
-size : (c : tie.After-call-columns)
-    → length (take (c .before .before .before .before .before .before .before .before .before .args .width) (c .call-columns .result .text))
-    ≡ c .before .before .before .before .before .before .before .before .before .args .width
-size c =
-    let s = c .before .before .before .before .before .before .before .before .before in
-    bytes-length (c .before .adjusted-entry .result) (s .args .caller .builder) (s .args .width) _ _ (c .call-columns .ensures .0)
 
 family-verdict-requires : tie.Need-family-verdict-requires
 family-verdict-requires c κs = search needs
@@ -28,49 +21,59 @@ refused-group-requires c κs = search needs
 enum-told : tie.Need-enum-told
 enum-told c = search needs
 
-adjusted-entry-requires : tie.Need-adjusted-entry-requires
-adjusted-entry-requires c κs = search needs
-
-call-columns-requires : tie.Need-call-columns-requires
-call-columns-requires c κs = search needs
-
-array-share-prefix-text : tie.Need-array-share-prefix-text
-array-share-prefix-text c = taken-inside _ (c .before .before .call-columns .result .text) (size (c .before .before))
-
-slice-aggregate-any-differs : tie.Need-slice-aggregate-any-differs
-slice-aggregate-any-differs c = sym (size (c .before .before .before))
-
-any-differs-requires : tie.Need-any-differs-requires
-any-differs-requires c κs =
-    let s = c .before .before .before .before .before .before .before .before .before .before .before .before in
-    let e = sym (size (c .before .before .before)) in (
-      s .pre .1,
-      subst (λ (w : ℕ). w ≤ 255) e (s .pre .2),
-      subst (λ (w : ℕ). Fits w (s .args .set .now) (s .args .places .now) (s .args .count)) e (s .pre .3),
-    )
+refused-group-requires-2 : tie.Need-refused-group-requires-2
+refused-group-requires-2 c κs = search needs
 
 returns : tie.Need-returns
 returns c =
-    let a = c .before .before .before .before .before .before .before .before .before .args in
+    let s = c .before .before .before .before .before .before .before .before .before in
+    let a = s .args in
     let v = c .before .before .before .before .family-verdict in
-    let ps = take (a .count) (a .places .now) in (
-      family-refused (a .caller) (a .width) (a .set .now) ps (v .result) (v .ensures) _ (c .before .before .r .given .1) _ (c .refused-group .ensures .0),
-      c .refused-group .ensures .1,
+    let r = c .refused-group2 in (
+      family-short (a .caller) (a .width) (a .set .now) (a .places .now) (a .out .now) (s .pre .1) (v .result) (v .ensures) (c .before .before .enum-told .given .1) (c .before .if1 .taken)
+          (r .result) (r .ensures .0),
+      r .ensures .1,
     )
+
+adjusted-entry-requires : tie.Need-adjusted-entry-requires
+adjusted-entry-requires c κs = search needs
+
+slice-relend-prefix-call-family : tie.Need-slice-relend-prefix-call-family
+slice-relend-prefix-call-family c = search needs
+
+slice-aggregate-call-family : tie.Need-slice-aggregate-call-family
+slice-aggregate-call-family c =
+    let a = c .before .before .before .before .before .before .before .before .before .before .before .before .args in sym (length-take-le (a .width) (a .out .now) (omega arith))
+
+call-family-requires : tie.Need-call-family-requires
+call-family-requires c κs = search needs
 
 returns-2 : tie.Need-returns-2
 returns-2 c =
-    let s = c .before .before .before .before .before .before .before .before .before .before .before .before .before in
+    let s = c .before .before .before .before .before .before .before .before .before in
     let a = s .args in
-    let ps = take (a .count) (a .places .now) in
-    let k = c .before .before .before .before .call-columns in
+    let v = c .before .before .before .before .family-verdict in
+    let r = c .refused-group in (
+      family-refused (a .caller) (a .width) (a .set .now) (a .places .now) (a .out .now) (s .pre .1) (v .result) (v .ensures) _ (c .before .before .r .given .1) (r .result) (r .ensures .0),
+      r .ensures .1,
+    )
+
+same-length : tie.Need-same-length
+same-length c = search needs
+
+returns-3 : tie.Need-returns-3
+returns-3 c =
+    let s = c .before .before .before .before .before .before .before .before .before .before .before .before .before .before .before .before in
+    let a = s .args in
+    let v = c .before .before .before .before .before .before .before .before .before .before .before .family-verdict in
     let e = c .before .before .before .before .before .adjusted-entry in
-    let t = c .before .before .before .before .before .before in
-    let v = t .before .before .family-verdict in (
-      family-found (a .caller) (a .width) (a .set .now) ps (v .result) (v .ensures) (t .enum-told .given .1)
-          (e .result) (e .ensures .0) (e .ensures .1) (take (a .width) (k .result .text)) (k .ensures .0)
-          (c .any-differs .result) (c .any-differs .ensures) (k .result .builder) (k .ensures .1),
-      s .pre .2,
+    let k = c .before .before .before .call-family in
+    let size : length (take (a .width) (a .out .now)) ≡ a .width = length-take-le (a .width) (a .out .now) (c .before .before .before .before .before .before .before .before .if1 .left) in
+    let found =
+    called-found (a .caller) (e .result) (e .ensures .0) (e .ensures .1) (a .width) (a .set .now) (a .places .now) (take (a .width) (a .out .now)) size (s .pre .1)
+    (k .result) (k .ensures .0) _ (k .ensures .1) in (
+      family-given (a .caller) (a .width) (a .set .now) (a .places .now) (a .out .now) (s .pre .1) (v .result) (v .ensures) (c .before .before .before .before .before .before .before .before .before .enum-told .given .1) (c .before .before .before .before .before .before .before .before .if1 .left) _ found,
+      s .pre .0,
     )
 
 pub family-spec : {M : Type 1} → statement M
@@ -81,10 +84,12 @@ family-spec =
     enum-known-r
     refused-group-requires
     enum-told
-    adjusted-entry-requires
-    call-columns-requires
-    array-share-prefix-text
-    slice-aggregate-any-differs
-    any-differs-requires
+    refused-group-requires-2
     returns
-    returns-2)
+    adjusted-entry-requires
+    slice-relend-prefix-call-family
+    slice-aggregate-call-family
+    call-family-requires
+    returns-2
+    same-length
+    returns-3)

@@ -1,36 +1,16 @@
--- `consensus_byte`: a first byte that is DNA, and one that is not. Assumes nothing.
-use mathlib.Core.Path.{ap, _∙_}
+-- `consensus_byte`: the lanes and the rule are the builder's. Assumes nothing.
 use borrow.Author.Needs.{needs}
-use Rattle.tie_rules.specs.Lanes.{baseOf}
 use Rattle.umi_column.specs.Calls.{namedByte}
+use Rattle.umi_column.specs.Sums.{byteBy}
 use Rattle.umi_column.proofs.calls.consensus_byte.Statement.{statement}
 use Rattle.umi_column.proofs.calls.consensus_byte.Tie as tie
 
-is-dna-base-requires : tie.Need-is-dna-base-requires
-is-dna-base-requires c κs = search needs
-
-unique-max-index-with-requires : tie.Need-unique-max-index-with-requires
-unique-max-index-with-requires c κs = search needs
-
-base-of-requires : tie.Need-base-of-requires
-base-of-requires c κs = search needs
+named-requires : tie.Need-named-requires
+named-requires c κs = search needs
 
 returns : tie.Need-returns
-unfolding namedByte
-returns c =
-    rw (← c .before .before .before .before .is-dna-base .ensures, c .before .before .before .if1 .taken)
-    (c .base-of .ensures ∙ ap baseOf (c .before .unique-max-index-with .ensures))
-
-returns-2 : tie.Need-returns-2
-unfolding namedByte
-returns-2 c = rw (← c .before .is-dna-base .ensures, c .if1 .left)
+unfolding namedByte byteBy
+returns c = c .named .ensures
 
 pub consensus-byte-spec : {M : Type 1} → statement M
-consensus-byte-spec =
-    tie.close
-    (tie.spec
-    is-dna-base-requires
-    unique-max-index-with-requires
-    base-of-requires
-    returns
-    returns-2)
+consensus-byte-spec = tie.close (tie.spec named-requires returns)

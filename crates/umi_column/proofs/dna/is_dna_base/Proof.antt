@@ -1,41 +1,29 @@
--- `is_dna_base`: each of the five, and what is none of them. Assumes nothing.
-use mathlib.Core.Path.{sym, ap, _∙_}
-use mathlib.Core.Bool.{Bool}
-use mathlib.Core.Logic.{inl, inr, ⊎-elim}
-use Prim.Native.Nat.{ℕ}
-use lib.Dec.{eqb}
-use borrow.Author.Needs.{needs}
-use borrow.Author.Tests.{ne-eqb}
-use Rattle.lent_bytes.specs.Lists.{any}
-use Rattle.umi_column.specs.Dna.{dnaBases, isDnaBase}
+-- `is_dna_base`: the byte is one of the ten letters, and those alone are DNA. Assumes nothing.
+use mathlib.Core.Path.{_≡_, refl}
+use mathlib.Core.Bool.{Bool, true, false, Bool·beq, or-assoc, or-false}
+use Prim.Native.Nat.{ℕ, _<_}
+use native.Mathlib.Omega.{arith}
+use lib.Dec.{T}
+use Rattle.float.proofs.Claims.{below}
+use Rattle.umi_column.specs.Dna.{isDnaBase}
+use Rattle.umi_column.specs.DnaClaims.{isDnaLetter, dnaAt}
+use Rattle.umi_column.proofs.DnaClaims.{dna-claims}
 use Rattle.umi_column.proofs.dna.is_dna_base.Statement.{statement}
 use Rattle.umi_column.proofs.dna.is_dna_base.Tie as tie
 
--- a byte in upper case is one of the five
-abbrev isOne : ℕ → Bool
-isOne u = any (λ b. eqb u b) dnaBases
+same : (a b : Bool) → T (Bool·beq a b) → a ≡ b
+same true true h = refl
+same true false h = absurd h
+same false true h = absurd h
+same false false h = refl
 
-to-ascii-uppercase-requires : tie.Need-to-ascii-uppercase-requires
-to-ascii-uppercase-requires c κs = search needs
+letter : (x : ℕ) → x < 256 → isDnaBase x ≡ isDnaLetter x
+unfolding dnaAt
+letter x h = same (isDnaBase x) (isDnaLetter x) (below dnaAt 256 dna-claims x h)
 
 returns : tie.Need-returns
-unfolding isDnaBase
-returns c =
-    sym (ap isOne (sym (c .before .to-ascii-uppercase .ensures)) ∙
-    ⊎-elim (λ e. ap isOne e) (⊎-elim (λ e. ap isOne e) (⊎-elim (λ e. ap isOne e) (⊎-elim (λ e. ap isOne e) (λ e. ap isOne e)))) (c .match .keys1))
-
-returns-2 : tie.Need-returns-2
-unfolding isDnaBase
-returns-2 c =
-    let no = c .match .rest .1 in
-    sym (ap isOne (sym (c .before .to-ascii-uppercase .ensures)) ∙
-    rw (
-      ne-eqb _ 65 (λ e. no (inl e)),
-      ne-eqb _ 67 (λ e. no (inr (inl e))),
-      ne-eqb _ 71 (λ e. no (inr (inr (inl e)))),
-      ne-eqb _ 78 (λ e. no (inr (inr (inr (inl e))))),
-      ne-eqb _ 84 (λ e. no (inr (inr (inr (inr e))))),
-    ))
+unfolding isDnaLetter
+returns c = rw (letter (c .args .b) (omega arith)) (simp (or-assoc, or-false))
 
 pub is-dna-base-spec : {M : Type 1} → statement M
-is-dna-base-spec = tie.close (tie.spec to-ascii-uppercase-requires returns returns-2)
+is-dna-base-spec = tie.close (tie.spec returns)

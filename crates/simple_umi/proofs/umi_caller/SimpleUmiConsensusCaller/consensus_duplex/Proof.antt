@@ -1,42 +1,68 @@
--- `consensus_duplex`: a refused set, a refused or too long answer, and one that was put. Assumes nothing.
-use mathlib.Core.Path.{_≡_, refl, sym, _∙_}
-use lib.ListN.{length, length-map}
+-- `consensus_duplex`: a set that is refused, and the others by the pair of their strands. Assumes nothing.
+use mathlib.Core.List.{List}
+use mathlib.Core.Path.{_≡_, refl, sym}
+use Prim.Native.Nat.{ℕ, _≤_}
 use borrow.Author.Needs.{needs}
+use lib.Seq.{length-take-le}
+use lib.ListN.{length, take}
+use Rattle.refusals.specs.Result.{accepted}
 use Rattle.string_set.specs.StringSet.{readSet}
+use Rattle.simple_umi.specs.declared.answers.DuplexAnswer.the-variants.{Given}
+use Rattle.simple_umi.specs.Places.{Trimmed, stringsAt, GaveBoth}
 use Rattle.simple_umi.specs.Answers.{duplexIn}
 use Rattle.simple_umi.proofs.Groups.{read-refused, read-strings}
 use Rattle.simple_umi.proofs.Replies.{duplex-numbered, duplex-refused-short, ended-also}
-use Rattle.simple_umi.proofs.Strands.{duplex-unread, duplex-not-put, duplex-put}
-use Rattle.simple_umi.proofs.umi_caller.SimpleUmiConsensusCaller.consensus_duplex.Statement.{
-  statement,
-}
+use Rattle.simple_umi.proofs.Strands.{pair-as, duplex-unread, duplex-read, duplex-not-given, duplex-given}
+use Rattle.simple_umi.proofs.umi_caller.SimpleUmiConsensusCaller.consensus_duplex.Statement.{statement}
 use Rattle.simple_umi.proofs.umi_caller.SimpleUmiConsensusCaller.consensus_duplex.Tie as tie
 
-read-requires : tie.Need-read-requires
-read-requires c κs = search needs
+-- what was read: n strings at the first places
+abbrev setOf : tie.After-n → List ℕ
+setOf c = c .before .before .before .before .before .before .before .args .set .now
 
-enum-known-reading : tie.Need-enum-known-reading
-enum-known-reading c = search needs
+abbrev placesOf : tie.After-n → List ℕ
+placesOf c = c .before .before .read-places .last .1 .0
+
+abbrev countOf : tie.After-n → ℕ
+countOf c = c .n .given .0 .0
+
+strings : (c : tie.After-n)
+    → (readSet (setOf c) ≡ accepted (stringsAt 0 (setOf c) (take (countOf c) (placesOf c)))) × (countOf c ≤ length (placesOf c)) × Trimmed 0 (setOf c) (take (countOf c) (placesOf c))
+strings c =
+    let r = c .before .before .read-places in
+    read-strings (setOf c) (placesOf c) (readSet (setOf c)) (r .result) (r .ensures .0) (r .ensures .1 .0) (countOf c) (c .n .given .1)
+
+-- the pair is that of the set
+set-pair : (c : tie.After-duplex-group)
+    → let s = c .before .before .before .before .before .before .before .before .before .before .before .args in GaveBoth (c .duplex-group .result) (s .out .now) (c .duplex-group .last .1 .1 .1 .0) (duplexIn (s .self .caller) (s .set .now) (s .out .now))
+set-pair c =
+    let s = c .before .before .before .before .before .before .before .before .before .before .before .args in
+    let k = c .duplex-group in
+    pair-as (s .out .now) (k .result) (k .last .1 .1 .1 .0) _ _ (duplex-read (s .self .caller) (s .set .now) (s .out .now) _ (strings (c .before .before .before .before) .0)) (k .ensures .0)
+
+read-places-requires : tie.Need-read-places-requires
+read-places-requires c κs = search needs
+
+enum-known-r : tie.Need-enum-known-r
+enum-known-r c = search needs
 
 duplex-refused-requires : tie.Need-duplex-refused-requires
 duplex-refused-requires c κs = search needs
 
-enum-known-reading-2 : tie.Need-enum-known-reading-2
-enum-known-reading-2 c = search needs
+enum-known-n : tie.Need-enum-known-n
+enum-known-n c = search needs
+
+array-share-prefix-places : tie.Need-array-share-prefix-places
+array-share-prefix-places c = strings (c .before) .1
+
+slice-aggregate-duplex-group : tie.Need-slice-aggregate-duplex-group
+slice-aggregate-duplex-group c = let g = c .before .before in sym (length-take-le (countOf g) (placesOf g) (strings g .1))
 
 duplex-group-requires : tie.Need-duplex-group-requires
-duplex-group-requires c κs =
-    let r = c .before .before .before .before .before .read in
-    let s = c .before .before .before .before .before .before .before .before .before .args .set .now in
-    let g = c .before .before .reading2 .given in
-    let t = read-strings s (r .result .places) (readSet s) (r .result .reading) (r .ensures .0) (r .ensures .1 .0) (g .0 .0) (g .1) in
-    (t .1, t .2)
+duplex-group-requires c κs = strings (c .before .before .before) .2
 
-put-requires : tie.Need-put-requires
-put-requires c κs = search needs
-
-enum-known-r : tie.Need-enum-known-r
-enum-known-r c = search needs
+enum-known-verdict : tie.Need-enum-known-verdict
+enum-known-verdict c = search needs
 
 duplex-refused-requires-2 : tie.Need-duplex-refused-requires-2
 duplex-refused-requires-2 c κs = search needs
@@ -49,65 +75,55 @@ with-builder-requires c κs = search needs
 
 returns : tie.Need-returns
 returns c =
-    let r = c .before .before .before .before .before .read in
-    let a = c .before .before .before .before .before .before .before .before .before .args in
-    let s = a .set .now in
-    let g = c .before .before .reading .given in
-    let t = read-refused s (r .result .places) (readSet s) (r .result .reading) (r .ensures .0) (r .ensures .1 .0) (g .0 .0) (g .1) in
-    ended-also
-    (duplex-unread (a .self .caller) s (a .out .now) _ _ (g .0 .0) t (c .duplex-refused .ensures .1) (c .duplex-refused .ensures .0))
-    (duplex-refused-short (c .duplex-refused .result .answer) _ (c .duplex-refused .ensures .1)) (duplex-numbered _ (duplexIn (a .self .caller) s (a .out .now)))
+    let s = c .before .before .before .before .before .before .before .before .before .args in
+    let r = c .before .before .before .before .read-places in
+    let x = c .duplex-refused .result in
+    let e = read-refused (s .set .now) (r .last .1 .0) (readSet (s .set .now)) (r .result) (r .ensures .0) (r .ensures .1 .0) _ (c .before .before .r .given .1) in
+    ended-also (duplex-unread (s .self .caller) (s .set .now) (s .out .now) (x .answer) (x .caller .caller) _ e (c .duplex-refused .ensures .1) (c .duplex-refused .ensures .0))
+    (duplex-refused-short (x .answer) _ (c .duplex-refused .ensures .1)) (duplex-numbered (x .answer) (duplexIn (s .self .caller) (s .set .now) (s .out .now)))
 
 same-length : tie.Need-same-length
 same-length c = search needs
 
 returns-2 : tie.Need-returns-2
 returns-2 c =
-    let w = c .before .before .before .before .before .before in
-    let p = w .before .before .before .before .duplex-group in
-    let m = w .before .before .before .before .before .before .before in
-    let r = m .before .before .before .read in
-    let a = m .before .before .before .before .before .before .before .args in
-    let s = a .set .now in
-    let g = m .reading2 .given in
-    let t = read-strings s (r .result .places) (readSet s) (r .result .reading) (r .ensures .0) (r .ensures .1 .0) (g .0 .0) (g .1) in
-    let e = c .before .before .r .given in
+    let g = c .before .before .before .before .before .before .before .before in
+    let s = g .before .before .before .before .before .before .before .before .before .before .before .args in
+    let x = c .duplex-refused2 .result in
+    let k = g .duplex-group in
     ended-also
-    (duplex-not-put (a .self .caller) s (a .out .now) _ _ _ (t .0) (p .result) (p .ensures .0) _ (w .put .result) (w .put .ensures .0) (w .put .ensures .1)
-    (e .0 .0) (e .1) (c .duplex-refused2 .ensures .1) (c .duplex-refused2 .ensures .0))
-    (duplex-refused-short (c .duplex-refused2 .result .answer) _ (c .duplex-refused2 .ensures .1)) (duplex-numbered _ (duplexIn (a .self .caller) s (a .out .now)))
+    (duplex-not-given (s .self .caller) (s .out .now) (k .last .1 .1 .1 .0) (x .answer) (x .caller .caller) (k .result) (duplexIn (s .self .caller) (s .set .now) (s .out .now)) (set-pair g) _
+    (c .before .before .verdict .given .1) (c .duplex-refused2 .ensures .1) (c .duplex-refused2 .ensures .0))
+    (duplex-refused-short (x .answer) _ (c .duplex-refused2 .ensures .1)) (duplex-numbered (x .answer) (duplexIn (s .self .caller) (s .set .now) (s .out .now)))
 
 same-length-2 : tie.Need-same-length-2
 same-length-2 c = search needs
 
 returns-3 : tie.Need-returns-3
 returns-3 c =
-    let w = c .before .before .before .before .before in
-    let p = w .before .before .before .before .duplex-group in
-    let m = w .before .before .before .before .before .before .before in
-    let r = m .before .before .before .read in
-    let a = m .before .before .before .before .before .before .before .args in
-    let s = a .set .now in
-    let g = m .reading2 .given in
-    let t = read-strings s (r .result .places) (readSet s) (r .result .reading) (r .ensures .0) (r .ensures .1 .0) (g .0 .0) (g .1) in
-    let text = p .result .group .text in
-    let bytes : length text ≡ 255 = sym (length-map text (λ x. x)) ∙ p .ok .1 .1 .0 .1 .1 .1 .0 .1 .0 .1 in
+    let g = c .before .before .before .before .before .before .before in
+    let s = g .before .before .before .before .before .before .before .before .before .before .before .args in
+    let k = g .duplex-group in
+    let r = k .result in
+    let answer = Given (r .group .length) (r .group .«had_errors») (r .«had_errors_b») in
+    let short : r .group .length ≤ 255 = k .ensures .1 in
     ended-also
-    (duplex-put (a .self .caller) s (a .out .now) _ _ _ (t .0) (p .result) (p .ensures .0) _ (w .put .result) (w .put .ensures .0) (w .put .ensures .1)
-    (c .before .enum-told .given .1) (p .ensures .1) bytes refl (c .with-builder .ensures))
-    (p .ensures .1) (duplex-numbered _ (duplexIn (a .self .caller) s (a .out .now)))
+    (duplex-given (s .self .caller) (s .out .now) (k .last .1 .1 .1 .0) answer (c .with-builder .result) r (duplexIn (s .self .caller) (s .set .now) (s .out .now)) (set-pair g)
+    (c .before .enum-told .given .1) refl (c .with-builder .ensures))
+    short (duplex-numbered answer (duplexIn (s .self .caller) (s .set .now) (s .out .now)))
 
 pub consensus-duplex-spec : {M : Type 1} → statement M
 consensus-duplex-spec =
     tie.close
     (tie.spec
-    read-requires
-    enum-known-reading
-    duplex-refused-requires
-    enum-known-reading-2
-    duplex-group-requires
-    put-requires
+    read-places-requires
     enum-known-r
+    duplex-refused-requires
+    enum-known-n
+    array-share-prefix-places
+    slice-aggregate-duplex-group
+    duplex-group-requires
+    enum-known-verdict
     duplex-refused-requires-2
     enum-told
     with-builder-requires

@@ -1,0 +1,162 @@
+-- Loops over the columns, and over the strings' bytes at one place. Assumes nothing.
+use mathlib.Core.Path.{_≡_, refl, sym, _∙_, ap}
+use mathlib.Core.List.{List, [], _∷_, map}
+use Prim.Native.Nat.{ℕ, zero, suc, _+_, _-_, _≤_, _<_}
+use native.Mathlib.Numerals.{add-one}
+use native.Mathlib.Omega.{arith}
+use lib.Ieee.{Float}
+use lib.ListN.{length, take, drop, set, getD, length-map, length-set, drop-of-length-le}
+use lib.Seq.{drop-cons, take-suc, take-suc-set, take-take, take-all, getD-take}
+use Rattle.lent_bytes.specs.Lists.{lastOr, byteAt}
+use Rattle.lent_bytes.proofs.Lists.{bytes-from}
+use Rattle.refusals.specs.declared.Refusal.{Refusal}
+use Rattle.refusals.specs.declared.Verdict.the-variants.{Sound, Refused}
+use Rattle.refusals.specs.Result.{firstRefused}
+use Rattle.rate_tables.specs.Tables.{listed}
+use Rattle.rate_tables.specs.declared.adjusted.AdjustedEntry.{AdjustedEntry}
+use Rattle.base_builder.specs.declared.builder.ConsensusBaseBuilder.{ConsensusBaseBuilder}
+use Rattle.umi_column.specs.Calls.{namedByte}
+use Rattle.umi_column.proofs.SumLaws.{sums-byte}
+use Rattle.tie_rules.specs.declared.tie_rule.TieRule.{TieRule}
+use Rattle.rate_tables.proofs.Filled.{listed-length, level-at}
+use Rattle.umi_column.specs.Verdicts.{verdictOf}
+use Rattle.umi_column.specs.declared.sums.LaneSums.{LaneSums}
+use Rattle.umi_column.specs.Sums.{noSums, windowOf, summedBy, summedAll, byteBy}
+use Rattle.umi_family.specs.Rows.{bytesAt, columnsAt}
+use Rattle.umi_family.specs.Family.{builderBy, bytesBy, bytesSummed, lastBy}
+use Rattle.umi_family.proofs.RowLoops.{map-at, given-length, given-at}
+
+-- ---- a list filled place by place with what another holds
+module _ {A : Type 0} (out l : List A) (k : ℕ) where
+  pub filled-more : (d v : A) → k < length l → k < length out → v ≡ getD l k d → take k out ≡ take k l → take (k + 1) (set out k v) ≡ take (k + 1) l
+  filled-more d v h g w e = rw (add-one k, take-suc-set out k v g, take-suc l k d h, e, w)
+
+  pub filled-less : (j : ℕ) → j ≤ k → take k out ≡ take k l → take j out ≡ take j l
+  filled-less j h e = sym (take-take j k out h) ∙ ap (take j) e ∙ take-take j k l h
+
+  pub filled : length out ≤ k → length l ≤ k → take k out ≡ take k l → out ≡ l
+  filled h g e = sym (take-all k out h) ∙ e ∙ take-all k l g
+
+-- ---- the sums of a column, of whose bytes k are passed
+module _ (window : List Float) (f : ℕ → ℕ) (ps : List ℕ) (k : ℕ) (sums : LaneSums) where
+  pub summed-more : k < length ps → (after : LaneSums) → after ≡ summedBy window (f (byteAt ps k)) sums
+      → summedAll window (drop (k + 1) (map f ps)) after ≡ summedAll window (drop k (map f ps)) sums
+  unfolding summedAll
+  summed-more h after e = rw (bytes-from (map f ps) k (rw (given-length f ps) h), given-at f ps k 0 h, e)
+
+  pub summed-none : length ps ≤ k → summedAll window (drop k (map f ps)) sums ≡ sums
+  unfolding summedAll
+  summed-none h =
+      let l : length (map f ps) ≤ k = rw (given-length f ps) h in
+      rw (drop-of-length-le (map f ps) l)
+
+-- ---- the columns
+module _ (w : ℕ) (s ps : List ℕ) where
+  pub columns-length : length (columnsAt w s ps) ≡ w
+  unfolding columnsAt
+  columns-length = listed-length (λ k. bytesAt k s ps) 0 w
+
+  pub column-at : (at : ℕ) → at < w → getD (columnsAt w s ps) at [] ≡ bytesAt at s ps
+  unfolding columnsAt
+  column-at at h = level-at (λ k. bytesAt k s ps) [] w at h
+
+  pub first-byte : (at : ℕ) → 0 < length ps → byteAt (bytesAt at s ps) 0 ≡ byteAt s (byteAt ps 0 + 1 + at)
+  first-byte at h = given-at _ ps 0 0 h
+
+  -- the byte at a place by the sums of its column
+  pub summed-at : (window : List Float) (rule : TieRule) (at : ℕ) → at < w → 0 < length ps
+      → getD (bytesSummed window rule (columnsAt w s ps)) at 0 ≡ byteBy (summedAll window (bytesAt at s ps) noSums .likelihoods) rule (byteAt s (byteAt ps 0 + 1 + at))
+  summed-at window rule at h g =
+      map-at _ (columnsAt w s ps) at [] 0 (rw columns-length h) ∙ rw (column-at at h, first-byte at g)
+
+  pub summed-length : (window : List Float) (rule : TieRule) → length (bytesSummed window rule (columnsAt w s ps)) ≡ w
+  summed-length window rule = length-map (columnsAt w s ps) _ ∙ columns-length
+
+  -- two columns more
+  pub pair-more : (window : List Float) (rule : TieRule) (text : List ℕ) (at : ℕ) (left right : LaneSums) (x y : ℕ)
+      → length text ≡ w → at + 1 < w → 0 < length ps
+      → left ≡ summedAll window (bytesAt at s ps) noSums → right ≡ summedAll window (bytesAt (at + 1) s ps) noSums
+      → x ≡ byteBy (left .likelihoods) rule (byteAt s (byteAt ps 0 + 1 + at)) → y ≡ byteBy (right .likelihoods) rule (byteAt s (byteAt ps 0 + 1 + at + 1))
+      → take at text ≡ take at (bytesSummed window rule (columnsAt w s ps))
+      → take (at + 2) (set (set text at x) (at + 1) y) ≡ take (at + 2) (bytesSummed window rule (columnsAt w s ps))
+  pair-more window rule text at left right x y n h some l r e f told =
+      let bytes = bytesSummed window rule (columnsAt w s ps) in
+      let size : length bytes ≡ w = summed-length window rule in
+      let two : at + 2 ≡ at + 1 + 1 = omega arith in
+      let place : byteAt ps 0 + 1 + at + 1 ≡ byteAt ps 0 + 1 + (at + 1) = omega arith in
+      let at-left : x ≡ getD bytes at 0 = e ∙ rw l (sym (summed-at window rule at (omega arith) some)) in
+      let at-right : y ≡ getD bytes (at + 1) 0 = f ∙ rw (r, place) (sym (summed-at window rule (at + 1) h some)) in
+      let first = filled-more text bytes at 0 x (omega arith) (omega arith) at-left told in
+      rw two (filled-more (set text at x) bytes (at + 1) 0 y (omega arith) (simp length-set (omega arith)) at-right first)
+
+-- the first faulty column, of which k are passed
+module _ (cs : List (List ℕ)) (k : ℕ) where
+  pub refusal-more : k < length cs → verdictOf (getD cs k []) ≡ Sound → firstRefused verdictOf (drop (k + 1) cs) ≡ firstRefused verdictOf (drop k cs)
+  refusal-more h e = rw (add-one k, drop-cons cs k [] h, e)
+
+  pub refusal-found : k < length cs → (r : Refusal) → verdictOf (getD cs k []) ≡ Refused r → Refused r ≡ firstRefused verdictOf (drop k cs)
+  refusal-found h r e = rw (drop-cons cs k [] h, e)
+
+  pub refusal-none : length cs ≤ k → Sound ≡ firstRefused verdictOf (drop k cs)
+  refusal-none h = rw (drop-of-length-le cs h)
+
+-- ---- a column of as many bytes as there are places, gathered byte by byte
+module _ (s ps : List ℕ) (at : ℕ) (column : List ℕ) (e : take (length ps) column ≡ bytesAt at s ps) where
+  pub gathered-count : length ps ≡ length (take (length ps) column)
+  gathered-count = sym (ap length e ∙ given-length _ ps)
+
+  pub gathered-first : 0 < length ps → byteAt column 0 ≡ byteAt (bytesAt at s ps) 0
+  gathered-first h = sym (getD-take (length ps) column 0 0 h) ∙ ap (λ (l : List ℕ). byteAt l 0) e
+
+-- ---- what all columns give
+map-listed : (f g : List ℕ → ℕ) (column : ℕ → List ℕ) (a n : ℕ) → ((k : ℕ) → f (column k) ≡ g (column k)) → map f (listed column a n) ≡ map g (listed column a n)
+unfolding listed
+map-listed f g column a zero e = refl
+map-listed f g column a (suc n) e = rw (e a, map-listed f g column (a + 1) n e)
+
+last-listed : {B : Type 0} (f : List ℕ → B) (x : B) (column : ℕ → List ℕ) (a n : ℕ) → lastOr x (map f (listed column a (suc n))) ≡ f (column (a + n))
+unfolding listed
+last-listed f x column a zero =
+    let e : a ≡ a + 0 = omega arith in
+    ap (λ (k : ℕ). f (column k)) e
+last-listed f x column a (suc n) =
+    let e : a + 1 + n ≡ a + suc n = omega arith in
+    last-listed f (f (column a)) column (a + 1) n ∙ ap (λ (k : ℕ). f (column k)) e
+
+module _ (e : AdjustedEntry) (b : ConsensusBaseBuilder) (s ps : List ℕ) where
+  -- the bytes by the sums are those by the builder
+  summed-bytes : (w : ℕ) → length ps ≤ 255 → bytesSummed (windowOf (e .correct) (e .«error_per_alt»)) (b .«tie_rule») (columnsAt w s ps) ≡ bytesBy e b (columnsAt w s ps)
+  unfolding columnsAt
+  summed-bytes w h =
+      map-listed _ _ (λ k. bytesAt k s ps) 0 w
+      (λ k. sums-byte (e .correct) (e .«error_per_alt») (bytesAt k s ps) b (byteAt (bytesAt k s ps) 0) (rw (given-length (λ p. byteAt s (p + 1 + k)) ps) (omega arith)))
+
+  pub no-columns : (text : List ℕ) → length text ≡ 0 → (text ≡ bytesBy e b (columnsAt (length text) s ps)) × (b ≡ lastBy e b (columnsAt (length text) s ps))
+  unfolding columnsAt listed
+  no-columns [] h = (refl, refl)
+  no-columns (x ∷ xs) h = absurd (omega arith)
+
+  last-by : (w : ℕ) → 0 < w → lastBy e b (columnsAt w s ps) ≡ builderBy e b (bytesAt (w - 1) s ps)
+  unfolding columnsAt
+  last-by w h =
+      let one : w ≡ suc (w - 1) = omega arith in
+      let end : 0 + (w - 1) ≡ w - 1 = omega arith in
+      ap (λ (n : ℕ). lastBy e b (listed (λ k. bytesAt k s ps) 0 n)) one
+      ∙ last-listed (builderBy e b) b (λ k. bytesAt k s ps) 0 (w - 1) ∙ ap (λ (k : ℕ). builderBy e b (bytesAt k s ps)) end
+
+  -- the last column, after the others
+  pub last-column : (w : ℕ) → 0 < w → length ps ≤ 255 → (text : List ℕ) → length text ≡ w
+      → take (w - 1) text ≡ take (w - 1) (bytesSummed (windowOf (e .correct) (e .«error_per_alt»)) (b .«tie_rule») (columnsAt w s ps))
+      → (after : ConsensusBaseBuilder) → after ≡ builderBy e b (bytesAt (w - 1) s ps) → (x : ℕ) → x ≡ namedByte after (byteAt (bytesAt (w - 1) s ps) 0)
+      → (set text (w - 1) x ≡ bytesBy e b (columnsAt w s ps)) × (after ≡ lastBy e b (columnsAt w s ps))
+  last-column w h most text n told after f x g =
+      let columns = columnsAt w s ps in
+      let bytes = bytesBy e b columns in
+      let size : length bytes ≡ w = length-map columns _ ∙ columns-length w s ps in
+      let many : length columns ≡ w = columns-length w s ps in
+      let passed : take (w - 1) text ≡ take (w - 1) bytes = rw (summed-bytes w most) at told in
+      let here : getD bytes (w - 1) 0 ≡ namedByte (builderBy e b (bytesAt (w - 1) s ps)) (byteAt (bytesAt (w - 1) s ps) 0) =
+      map-at _ columns (w - 1) [] 0 (omega arith) ∙ rw (column-at w s ps (w - 1) (omega arith)) in
+      let all : take (w - 1 + 1) (set text (w - 1) x) ≡ take (w - 1 + 1) bytes =
+      filled-more text bytes (w - 1) 0 x (omega arith) (omega arith) (g ∙ rw f (sym here)) passed in
+      (filled (set text (w - 1) x) bytes (w - 1 + 1) (simp length-set (omega arith)) (omega arith) all, f ∙ sym (last-by w h))

@@ -1,0 +1,3 @@
+pub mod RowLoops
+pub mod ColumnLoops
+pub mod Likeness

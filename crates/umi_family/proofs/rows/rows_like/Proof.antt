@@ -1,0 +1,135 @@
+-- `rows_like`: what the strings left say is what all of them say, at each turn; the first is like itself. Assumes nothing.
+use mathlib.Core.Path.{_≡_, _∙_}
+use mathlib.Core.Bool.{true}
+use mathlib.Core.List.{[]}
+use Prim.Native.Nat.{_+_, _-_, _≤_}
+use native.Mathlib.Omega.{arith}
+use borrow.Author.Tests.{not-true, not-false}
+use borrow.Author.Needs.{needs}
+use lib.ListN.{length, take, drop, getD}
+use Rattle.lent_bytes.specs.Lists.{every, byteAt}
+use Rattle.lent_bytes.proofs.Tests.{every-first}
+use Rattle.umi_family.specs.Rows.{rowsAt, likeRow}
+use Rattle.umi_family.proofs.RowLoops.{given-at, row-lent, row-told, like-self, given-passed, given-failed, given-all}
+use Rattle.umi_family.proofs.rows.rows_like.Statement.{statement}
+use Rattle.umi_family.proofs.rows.rows_like.Tie as tie
+
+abbrev Inv-loop : tie.InvT-loop
+Inv-loop set places width from end first k₀ k =
+    let f = take width (drop (byteAt places 0 + 1) set) in
+    (1 ≤ k) × (every (likeRow f) (drop k (rowsAt width set places)) ≡ every (likeRow f) (rowsAt width set places))
+
+abbrev μ-loop : tie.MeasureT-loop
+μ-loop set places width from end first k₀ k = length places - k
+
+shared-slice-read-from : tie.Need-shared-slice-read-from Inv-loop μ-loop
+shared-slice-read-from c = c .before .before .before .pre .0
+
+add-from : tie.Need-add-from Inv-loop μ-loop
+add-from c = omega (arith, c .before .before .before .pre .2 0 (omega arith))
+
+add-end : tie.Need-add-end Inv-loop μ-loop
+add-end c = omega (arith, c .before .before .before .pre .2 0 (omega arith))
+
+sub-first : tie.Need-sub-first Inv-loop μ-loop
+sub-first c = search needs
+
+part-first-start : tie.Need-part-first-start Inv-loop μ-loop
+part-first-start c = search needs
+
+part-first-end : tie.Need-part-first-end Inv-loop μ-loop
+part-first-end c = omega (arith, c .before .before .before .pre .2 0 (omega arith))
+
+loop-holds : tie.Need-loop-holds Inv-loop μ-loop
+loop-holds c =
+    let a = c .before .before .before .before .args in
+    let f = take (a .width) (drop (byteAt (a .places .now) 0 + 1) (a .set .now)) in
+    let rows = rowsAt (a .width) (a .set .now) (a .places .now) in
+    let self : likeRow f (getD rows 0 []) ≡ true =
+    rw (given-at (λ p. take (a .width) (drop (p + 1) (a .set .now))) (a .places .now) 0 [] (c .before .before .before .before .pre .0)) (like-self f) in
+    (omega arith, every-first (likeRow f) rows [] self)
+
+mul-from : tie.Need-mul-from Inv-loop μ-loop
+mul-from c = search needs
+
+shared-slice-read-from-2 : tie.Need-shared-slice-read-from-2 Inv-loop μ-loop
+shared-slice-read-from-2 c = search needs
+
+add-from-2 : tie.Need-add-from-2 Inv-loop μ-loop
+add-from-2 c =
+    let o = c .before .before in omega (arith, o .before .before .before .before .before .pre .2 (o .loop .k) (omega arith))
+
+add-end-2 : tie.Need-add-end-2 Inv-loop μ-loop
+add-end-2 c =
+    let o = c .before .before in omega (arith, o .before .before .before .before .before .pre .2 (o .loop .k) (omega arith))
+
+sub-like-row : tie.Need-sub-like-row Inv-loop μ-loop
+sub-like-row c = search needs
+
+part-like-row-start : tie.Need-part-like-row-start Inv-loop μ-loop
+part-like-row-start c = search needs
+
+part-like-row-end : tie.Need-part-like-row-end Inv-loop μ-loop
+part-like-row-end c =
+    let o = c .before .before in omega (arith, o .before .before .before .before .before .pre .2 (o .loop .k) (omega arith))
+
+like-row-requires : tie.Need-like-row-requires Inv-loop μ-loop
+like-row-requires c κs = search needs
+
+returns : tie.Need-returns Inv-loop μ-loop
+returns c =
+    let o = c .before .before .before .before .before in
+    let a = o .before .before .before .before .before .args in
+    let from = byteAt (a .places .now) (o .loop .k) + 1 in
+    let f = take (a .width) (drop (byteAt (a .places .now) 0 + 1) (a .set .now)) in
+    let lent = rw (row-lent (a .set .now) (byteAt (a .places .now) 0 + 1) (a .width)) at (c .before .like-row .ensures) in
+    let said = row-told (likeRow f) (a .set .now) from (a .width) _ _ lent (not-true _ (c .if1 .taken)) in
+    given-failed _ (a .places .now) _ (o .loop .k) (omega arith) said ∙ o .loop .inv .1
+
+add-k : tie.Need-add-k Inv-loop μ-loop
+add-k c = search needs
+
+loop-less : tie.Need-loop-less Inv-loop μ-loop
+loop-less c = search needs
+
+loop-again : tie.Need-loop-again Inv-loop μ-loop
+loop-again c =
+    let o = c .before .before .before .before .before in
+    let a = o .before .before .before .before .before .args in
+    let from = byteAt (a .places .now) (o .loop .k) + 1 in
+    let f = take (a .width) (drop (byteAt (a .places .now) 0 + 1) (a .set .now)) in
+    let lent = rw (row-lent (a .set .now) (byteAt (a .places .now) 0 + 1) (a .width)) at (c .before .like-row .ensures) in
+    let said = row-told (likeRow f) (a .set .now) from (a .width) _ _ lent (not-false _ (c .if1 .left)) in
+    (omega arith, given-passed _ (a .places .now) _ (o .loop .k) (omega arith) said ∙ o .loop .inv .1)
+
+returns-2 : tie.Need-returns-2 Inv-loop μ-loop
+returns-2 c =
+    let o = c .before in
+    given-all _ (o .before .before .before .before .before .args .places .now) _ (o .loop .k) (omega arith) ∙ o .loop .inv .1
+
+pub rows-like-spec : {M : Type 1} → statement M
+rows-like-spec =
+    tie.close
+    (tie.spec
+    Inv-loop
+    μ-loop
+    shared-slice-read-from
+    add-from
+    add-end
+    sub-first
+    part-first-start
+    part-first-end
+    loop-holds
+    mul-from
+    shared-slice-read-from-2
+    add-from-2
+    add-end-2
+    sub-like-row
+    part-like-row-start
+    part-like-row-end
+    like-row-requires
+    returns
+    add-k
+    loop-less
+    loop-again
+    returns-2)

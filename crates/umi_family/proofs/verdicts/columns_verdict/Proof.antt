@@ -1,0 +1,102 @@
+-- `columns_verdict`: the columns left refuse what all of them refuse, at each turn. Assumes nothing.
+use mathlib.Core.Path.{_≡_, refl, sym, _∙_, ap}
+use Prim.Native.Nat.{_+_, _-_, _≤_}
+use native.Mathlib.Omega.{arith}
+use borrow.Author.Needs.{needs}
+use lib.ListN.{length, drop}
+use Rattle.refusals.specs.Result.{firstRefused}
+use Rattle.umi_column.specs.Verdicts.{verdictOf}
+use Rattle.umi_family.specs.Rows.{columnsAt}
+use Rattle.umi_family.proofs.RowLoops.{fits-less}
+use Rattle.umi_family.proofs.ColumnLoops.{columns-length, column-at, refusal-more, refusal-found, refusal-none, gathered-count}
+use Rattle.umi_family.proofs.verdicts.columns_verdict.Statement.{statement}
+use Rattle.umi_family.proofs.verdicts.columns_verdict.Tie as tie
+
+abbrev Inv-loop : tie.InvT-loop
+Inv-loop set places width at₀ at =
+    let columns = columnsAt width set places in
+    (at ≤ width) × (firstRefused verdictOf (drop at columns) ≡ firstRefused verdictOf columns)
+
+abbrev μ-loop : tie.MeasureT-loop
+μ-loop set places width at₀ at = width - at
+
+loop-holds : tie.Need-loop-holds Inv-loop μ-loop
+loop-holds c = (omega arith, refl)
+
+gather-requires : tie.Need-gather-requires Inv-loop μ-loop
+gather-requires c κs =
+    let o = c .before in
+    let a = o .before .before .before .args in
+    fits-less (o .loop .at + 1) (a .width) (a .set .now) (a .places .now) (omega arith) (o .before .before .before .pre)
+
+array-share-prefix-column : tie.Need-array-share-prefix-column Inv-loop μ-loop
+array-share-prefix-column c = search needs
+
+slice-aggregate-column-verdict : tie.Need-slice-aggregate-column-verdict Inv-loop μ-loop
+slice-aggregate-column-verdict c =
+    let a = c .before .before .before .before .before .before .args in gathered-count (a .set .now) (a .places .now) _ _ (c .before .gather .ensures)
+
+column-verdict-requires : tie.Need-column-verdict-requires Inv-loop μ-loop
+column-verdict-requires c κs = search needs
+
+enum-known-r : tie.Need-enum-known-r Inv-loop μ-loop
+enum-known-r c = search needs
+
+returns : tie.Need-returns Inv-loop μ-loop
+returns c =
+    let o = c .before .before .before .before .before .before .before in
+    let a = o .before .before .before .args in
+    let g = c .before .before .before .before .before .gather in
+    let cs = columnsAt (a .width) (a .set .now) (a .places .now) in
+    let at = o .loop .at in
+    let size : length cs ≡ a .width = columns-length (a .width) (a .set .now) (a .places .now) in
+    let here = column-at (a .width) (a .set .now) (a .places .now) at (omega arith) ∙ sym (g .ensures) in
+    let v = c .before .before .before .column-verdict in
+    refusal-found cs at (omega arith) _ (ap verdictOf here ∙ sym (v .ensures) ∙ c .before .r .given .1) ∙ o .loop .inv .1
+
+enum-told : tie.Need-enum-told Inv-loop μ-loop
+enum-told c = search needs
+
+add-at : tie.Need-add-at Inv-loop μ-loop
+add-at c = omega arith
+
+loop-less : tie.Need-loop-less Inv-loop μ-loop
+loop-less c = omega arith
+
+loop-again : tie.Need-loop-again Inv-loop μ-loop
+loop-again c =
+    let o = c .before .before .before .before .before .before in
+    let a = o .before .before .before .args in
+    let g = c .before .before .before .before .gather in
+    let cs = columnsAt (a .width) (a .set .now) (a .places .now) in
+    let at = o .loop .at in
+    let size : length cs ≡ a .width = columns-length (a .width) (a .set .now) (a .places .now) in
+    let here = column-at (a .width) (a .set .now) (a .places .now) at (omega arith) ∙ sym (g .ensures) in
+    let v = c .before .before .column-verdict in
+    (omega arith, refusal-more cs at (omega arith) (ap verdictOf here ∙ sym (v .ensures) ∙ c .enum-told .given .1) ∙ o .loop .inv .1)
+
+returns-2 : tie.Need-returns-2 Inv-loop μ-loop
+returns-2 c =
+    let o = c .before in
+    let a = o .before .before .before .args in
+    let size = columns-length (a .width) (a .set .now) (a .places .now) in
+    refusal-none (columnsAt (a .width) (a .set .now) (a .places .now)) (o .loop .at) (omega arith) ∙ o .loop .inv .1
+
+pub columns-verdict-spec : {M : Type 1} → statement M
+columns-verdict-spec =
+    tie.close
+    (tie.spec
+    Inv-loop
+    μ-loop
+    loop-holds
+    gather-requires
+    array-share-prefix-column
+    slice-aggregate-column-verdict
+    column-verdict-requires
+    enum-known-r
+    returns
+    enum-told
+    add-at
+    loop-less
+    loop-again
+    returns-2)

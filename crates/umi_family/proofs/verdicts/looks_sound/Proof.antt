@@ -1,0 +1,62 @@
+-- `looks_sound`: the first string has no byte of 128 or more, and each is like it. Assumes nothing.
+use mathlib.Core.Path.{refl}
+use Prim.Native.Nat.{_+_}
+use native.Mathlib.Omega.{arith}
+use borrow.Author.Needs.{needs}
+use Rattle.float.proofs.Cases.{clash}
+use Rattle.lent_bytes.specs.Lists.{any, byteAt}
+use Rattle.umi_family.specs.Rows.{isHigh}
+use Rattle.umi_family.proofs.RowLoops.{row-told}
+use Rattle.umi_family.proofs.Likeness.{like-sound}
+use Rattle.umi_family.proofs.verdicts.looks_sound.Statement.{statement}
+use Rattle.umi_family.proofs.verdicts.looks_sound.Tie as tie
+
+shared-slice-read-from : tie.Need-shared-slice-read-from
+shared-slice-read-from c = search needs
+
+add-from : tie.Need-add-from
+add-from c = omega (arith, c .before .before .before .pre .2 0 (omega arith))
+
+add-end : tie.Need-add-end
+add-end c = omega (arith, c .before .before .before .pre .2 0 (omega arith))
+
+sub-high-in : tie.Need-sub-high-in
+sub-high-in c = search needs
+
+part-high-in-start : tie.Need-part-high-in-start
+part-high-in-start c = search needs
+
+part-high-in-end : tie.Need-part-high-in-end
+part-high-in-end c = omega (arith, c .before .before .before .pre .2 0 (omega arith))
+
+high-in-requires : tie.Need-high-in-requires
+high-in-requires c κs = search needs
+
+returns : tie.Need-returns
+returns c = λ e. clash refl e
+
+rows-like-requires : tie.Need-rows-like-requires
+rows-like-requires c κs = search needs
+
+returns-2 : tie.Need-returns-2
+returns-2 c =
+    let o = c .before .before .before .before .before .before .before in
+    let a = o .args in
+    let from = byteAt (a .places .now) 0 + 1 in
+    let low = row-told (any isHigh) (a .set .now) from (a .width) _ _ (c .before .before .high-in .ensures) (c .before .if1 .left) in
+    λ e. like-sound (a .width) (a .set .now) (a .places .now) (o .pre) low (rw (c .rows-like .ensures) at e)
+
+pub looks-sound-spec : {M : Type 1} → statement M
+looks-sound-spec =
+    tie.close
+    (tie.spec
+    shared-slice-read-from
+    add-from
+    add-end
+    sub-high-in
+    part-high-in-start
+    part-high-in-end
+    high-in-requires
+    returns
+    rows-like-requires
+    returns-2)

@@ -1,0 +1,65 @@
+-- What a family is refused for, and what its columns give. Definitions only.
+use mathlib.Core.Bool.{false, not}
+use mathlib.Core.List.{List, map}
+use Prim.Native.Nat.{ℕ}
+use lib.Ieee.{Float}
+use lib.ListN.{length}
+use Rattle.float.specs.Ops.{if_then_else_}
+use Rattle.lent_bytes.specs.Lists.{any, lastOr, sameBytes, byteAt}
+use Rattle.refusals.specs.declared.Refusal.the-variants.{CutOff, NotAscii}
+use Rattle.refusals.specs.declared.Verdict.{Verdict}
+use Rattle.refusals.specs.declared.Verdict.the-variants.{Refused}
+use Rattle.refusals.specs.Result.{firstRefused}
+use Rattle.tie_rules.specs.declared.tie_rule.TieRule.{TieRule}
+use Rattle.rate_tables.specs.declared.adjusted.AdjustedEntry.{AdjustedEntry}
+use Rattle.base_builder.specs.declared.builder.ConsensusBaseBuilder.{ConsensusBaseBuilder}
+use Rattle.base_builder.specs.Builder.{resetOf}
+use Rattle.umi_column.specs.Verdicts.{verdictOf}
+use Rattle.umi_column.specs.Calls.{addedAll, namedByte}
+use Rattle.umi_column.specs.Sums.{noSums, summedAll, byteBy}
+use Rattle.umi_family.specs.declared.calls.Called.{Called}
+use Rattle.umi_family.specs.Rows.{fitting, rowsAt, columnsAt, isHigh}
+
+-- of strings that lie in the set: a byte of 128 or more in one of them, or else the first faulty column
+unfoldable pub verdictWithin : ℕ → List ℕ → List ℕ → Verdict
+verdictWithin w s ps =
+    if any (any isHigh) (rowsAt w s ps) then Refused NotAscii
+    else firstRefused verdictOf (columnsAt w s ps)
+
+-- of any: first that they do not
+unfoldable pub verdictAt : ℕ → List ℕ → List ℕ → Verdict
+verdictAt w s ps =
+    if fitting w s ps then verdictWithin w s ps
+    else Refused CutOff
+
+-- the builder after a column, from one after a reset
+abbrev pub builderBy : AdjustedEntry → ConsensusBaseBuilder → List ℕ → ConsensusBaseBuilder
+builderBy e b column = addedAll (e .correct) (e .«error_per_alt») column (resetOf b)
+
+-- a byte for each column
+abbrev pub bytesBy : AdjustedEntry → ConsensusBaseBuilder → List (List ℕ) → List ℕ
+bytesBy e b columns = map (λ column. namedByte (builderBy e b column) (byteAt column 0)) columns
+
+-- the same by the sums of its lanes alone, whose values lie in a window
+abbrev pub bytesSummed : List Float → TieRule → List (List ℕ) → List ℕ
+bytesSummed window rule columns = map (λ column. byteBy (summedAll window column noSums .likelihoods) rule (byteAt column 0)) columns
+
+-- the builder after the last
+abbrev pub lastBy : AdjustedEntry → ConsensusBaseBuilder → List (List ℕ) → ConsensusBaseBuilder
+lastBy e b columns = lastOr b (map (builderBy e b) columns)
+
+-- the text afterwards: a byte for each column of strings that lie in the set
+unfoldable pub textAt : AdjustedEntry → ConsensusBaseBuilder → List ℕ → List ℕ → List ℕ → List ℕ
+textAt e b s ps text =
+    if fitting (length text) s ps then bytesBy e b (columnsAt (length text) s ps)
+    else text
+
+-- whether one of them differs from it, and the builder after the last column
+unfoldable pub calledAt : AdjustedEntry → ConsensusBaseBuilder → List ℕ → List ℕ → List ℕ → Called
+calledAt e b s ps text =
+    if fitting (length text) s ps then
+    record {
+      «had_errors» = any (λ t. not (sameBytes t (textAt e b s ps text))) (rowsAt (length text) s ps);
+      builder = lastBy e b (columnsAt (length text) s ps);
+    }
+    else record { «had_errors» = false; builder = b }

@@ -1,0 +1,127 @@
+// The strings one by one.
+ghost use mathlib.Core.Path.{_≡_};
+ghost use mathlib.Core.Bool.{not};
+ghost use Prim.Native.Nat.{_+_};
+ghost use lib.Dec.{leb};
+ghost use lib.ListN.{length, take, drop};
+ghost use Rattle.lent_bytes.specs.Lists.{any, every, sameBytes, byteAt};
+ghost use Rattle.umi_family.specs.Rows.{fitting, Fits, rowsAt, isHigh, likeRow};
+use lent_bytes::same_bytes;
+use umi_column::is_dna_base;
+
+fn follow(place: usize, width: usize, length: usize) -> bool
+    ensures { λ r. ⌜ r ≡ leb (place + 1 + width) length ⌝ }
+{
+    if length <= place {
+        return false;
+    }
+    if length - place - 1 < width {
+        return false;
+    }
+    true
+}
+
+// Whether there are 1 to 255 strings, and each lies within the set.
+pub(crate) fn fit(set: &[u8], places: &[usize], width: usize) -> bool
+    ensures { λ r. ⌜ r ≡ fitting width (now (set .entry)) (now (places .entry)) ⌝ }
+{
+    if places.len() == 0 {
+        return false;
+    }
+    if 255 < places.len() {
+        return false;
+    }
+    let mut k = 0;
+    while k < places.len() {
+        if !follow(places[k], width, set.len()) {
+            return false;
+        }
+        k += 1;
+    }
+    true
+}
+
+pub(crate) fn high_in(bytes: &[u8]) -> bool
+    ensures { λ r. ⌜ r ≡ any isHigh (now (bytes .entry)) ⌝ }
+{
+    let mut i = 0;
+    while i < bytes.len() {
+        if 128 <= bytes[i] {
+            return true;
+        }
+        i += 1;
+    }
+    false
+}
+
+// Whether a string has a byte of 128 or more.
+pub(crate) fn any_high(set: &[u8], places: &[usize], width: usize) -> bool
+    requires { ⌜ Fits width (now set) (now places) ⌝ }
+    ensures { λ r. ⌜ r ≡ any (any isHigh) (rowsAt width (now (set .entry)) (now (places .entry))) ⌝ }
+{
+    let mut k = 0;
+    while k < places.len() {
+        let from = places[k] + 1;
+        let end = from + width;
+        if high_in(&set[from..end]) {
+            return true;
+        }
+        k += 1;
+    }
+    false
+}
+
+// Each byte is the first string's, or both are DNA. The one way out lets it go by sixteen bytes.
+fn like_row(first: &[u8], row: &[u8]) -> bool
+    ensures { λ r. ⌜ r ≡ likeRow (now (first .entry)) (now (row .entry)) ⌝ }
+{
+    if first.len() != row.len() {
+        return false;
+    }
+    let mut like = true;
+    let mut i = 0;
+    while i < row.len() {
+        let f = first[i];
+        let b = row[i];
+        like = like & ((f == b) | is_dna_base(f) & is_dna_base(b));
+        i += 1;
+    }
+    like
+}
+
+// Whether each string is so.
+pub(crate) fn rows_like(set: &[u8], places: &[usize], width: usize) -> bool
+    requires { ⌜ Fits width (now set) (now places) ⌝ }
+    ensures { λ r. ⌜ r ≡ every (likeRow (take width (drop (byteAt (now (places .entry)) 0 + 1) (now (set .entry))))) (rowsAt width (now (set .entry)) (now (places .entry))) ⌝ }
+{
+    let from = places[0] + 1;
+    let end = from + width;
+    let first = &set[from..end];
+    let mut k = 1;
+    while k < places.len() {
+        let from = places[k] + 1;
+        let end = from + width;
+        if !like_row(first, &set[from..end]) {
+            return false;
+        }
+        k += 1;
+    }
+    true
+}
+
+// Whether a string differs from a text of its width.
+pub(crate) fn any_differs(set: &[u8], places: &[usize], text: &[u8]) -> bool
+    requires { ⌜ Fits (length (now text)) (now set) (now places) ⌝ }
+    ensures { λ r. ⌜ r ≡ any (λ t. not (sameBytes t (now (text .entry)))) (rowsAt (length (now (text .entry))) (now (set .entry)) (now (places .entry))) ⌝ }
+{
+    let mut k = 0;
+    while k < places.len() {
+        let from = places[k] + 1;
+        let end = from + text.len();
+        if !same_bytes(&set[from..end], text) {
+            return true;
+        }
+        k += 1;
+    }
+    false
+}
