@@ -2,4 +2,5 @@ pub mod Dna
 pub mod Verdicts
 pub mod Calls
 pub mod Sums
+pub mod Counts
 pub mod DnaClaims

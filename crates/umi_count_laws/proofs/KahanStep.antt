@@ -1,0 +1,63 @@
+-- Kahan's step keeps the compensation within three steps of 0, and moves the lane by the value to within five. Assumes nothing.
+use mathlib.Core.Path.{_≡_}
+use Prim.Native.Nat.{ℕ, _+_, _*_, _≤_, _<_}
+use native.Mathlib.Nat.{mul-le-mul-right}
+use native.Mathlib.Omega.{arith}
+use lib.Ieee.{Float}
+use Rattle.base_builder.specs.declared.observation.Sum.{Sum}
+use Rattle.base_builder.specs.Observation.{movedBy}
+use Rattle.umi_count_laws.proofs.Places.{Within, Fine, At, Found, unit, base, added, less}
+
+-- after at most n observations that lower the lane by f in all
+pub record Stands (e : ℕ) (s : Sum) (f n : ℕ) : Type 0 where
+  pub place : ℕ
+  pub lane-at : At e (s .lane) place
+  pub lane-near : Within (5 * (n * e)) (place + f) (base e)
+  pub error : ℕ
+  pub compensation-at : At e (s .compensation) error
+  pub error-small : Within (3 * e) error (base e)
+
+-- an observation that moves nothing
+pub kept : {e : ℕ} {s : Sum} {f n : ℕ} → Stands e s f n → Stands e s f (n + 1)
+kept {e} {s} {f} {n} h = record {
+  place = h .place;
+  lane-at = h .lane-at;
+  lane-near = (omega (arith, h .lane-near .0), omega (arith, h .lane-near .1));
+  error = h .error;
+  compensation-at = h .compensation-at;
+  error-small = h .error-small
+}
+
+-- a value g below 0, where the lane stays above -8192
+pub stepped : {e : ℕ} → Fine e → {s : Sum} {f n : ℕ} → Stands e s f n → {x : Float} {u g : ℕ} → At e x u → u + g ≡ base e
+    → g ≤ 32 * unit e → f + g ≤ 8160 * unit e → n < 255 → Stands e (movedBy x s) (f + g) (n + 1)
+unfolding movedBy
+stepped {e} fine {s} {f} {n} h {x} {u} {g} p i small room few =
+    let some = fine .some in
+    let slack : n * e ≤ 254 * e = mul-le-mul-right e (omega arith) in
+    let v = h .place in
+    let k = h .error in
+    let near-a = h .lane-near .0 in
+    let near-b = h .lane-near .1 in
+    let small-a = h .error-small .0 in
+    let small-b = h .error-small .1 in
+    let (y, y-at, y-near) = less e fine p (h .compensation-at) (omega arith) (omega arith) (omega arith) in
+    let y-a = y-near .0 in
+    let y-b = y-near .1 in
+    let (t, t-at, t-near) = added e fine (h .lane-at) y-at (omega arith) (omega arith) in
+    let t-a = t-near .0 in
+    let t-b = t-near .1 in
+    let (d, d-at, d-near) = less e fine t-at (h .lane-at) (omega arith) (omega arith) (omega arith) in
+    let d-a = d-near .0 in
+    let d-b = d-near .1 in
+    let (c, c-at, c-near) = less e fine d-at y-at (omega arith) (omega arith) (omega arith) in
+    let c-a = c-near .0 in
+    let c-b = c-near .1 in
+    record {
+      place = t;
+      lane-at = t-at;
+      lane-near = (omega arith, omega arith);
+      error = c;
+      compensation-at = c-at;
+      error-small = (omega arith, omega arith)
+    }
