@@ -28,6 +28,18 @@ kept {e} {s} {f} {n} h = record {
   error-small = h .error-small
 }
 
+-- the step in numbers: y = u - k, t = v + y, d = t - v, c = d - y, each to within e, with b as the place of 0
+module _ (e b u v k y t d c : ℕ) (error : Within (3 * e) k b) (y-near : Within e (y + k) (u + b)) (t-near : Within e (t + b) (v + y)) where
+  lane-moved : Within (5 * e) (t + b) (v + u)
+  lane-moved = omega arith
+
+  error-moved : Within e (d + v) (t + b) → Within e (c + y) (d + b) → Within (3 * e) c b
+  error-moved p q = omega arith
+
+-- one slack more
+fallen : (e b u v t f g n : ℕ) → Within (5 * e) (t + b) (v + u) → u + g ≡ b → Within (5 * (n * e)) (v + f) b → Within (5 * ((n + 1) * e)) (t + (f + g)) b
+fallen e b u v t f g n p i q = omega arith
+
 -- a value g below 0, where the lane stays above -8192
 pub stepped : {e : ℕ} → Fine e → {s : Sum} {f n : ℕ} → Stands e s f n → {x : Float} {u g : ℕ} → At e x u → u + g ≡ base e
     → g ≤ 32 * unit e → f + g ≤ 8160 * unit e → n < 255 → Stands e (movedBy x s) (f + g) (n + 1)
@@ -44,20 +56,18 @@ stepped {e} fine {s} {f} {n} h {x} {u} {g} p i small room few =
     let (y, y-at, y-near) = less e fine p (h .compensation-at) (omega arith) (omega arith) (omega arith) in
     let y-a = y-near .0 in
     let y-b = y-near .1 in
-    let (t, t-at, t-near) = added e fine (h .lane-at) y-at (omega arith) (omega arith) in
+    let (t, t-at, t-near) = added e fine {v = v} {w = y} (h .lane-at) y-at (omega arith) (omega arith) in
     let t-a = t-near .0 in
     let t-b = t-near .1 in
-    let (d, d-at, d-near) = less e fine t-at (h .lane-at) (omega arith) (omega arith) (omega arith) in
+    let (d, d-at, d-near) = less e fine {v = t} {w = v} t-at (h .lane-at) (omega arith) (omega arith) (omega arith) in
     let d-a = d-near .0 in
     let d-b = d-near .1 in
-    let (c, c-at, c-near) = less e fine d-at y-at (omega arith) (omega arith) (omega arith) in
-    let c-a = c-near .0 in
-    let c-b = c-near .1 in
+    let (c, c-at, c-near) = less e fine {v = d} {w = y} d-at y-at (omega arith) (omega arith) (omega arith) in
     record {
       place = t;
       lane-at = t-at;
-      lane-near = (omega arith, omega arith);
+      lane-near = fallen e (base e) u v t f g n (lane-moved e (base e) u v k y t d c (h .error-small) y-near t-near) i (h .lane-near);
       error = c;
       compensation-at = c-at;
-      error-small = (omega arith, omega arith)
+      error-small = error-moved e (base e) u v k y t d c (h .error-small) y-near t-near d-near c-near
     }

@@ -145,7 +145,7 @@ fine-scale : (w : ℕ) → 0 < w → Fine (2 ^ 1062 * w)
 fine-scale w W = record {
   some = mul-pos (pow-pos 1062) W;
   round-near = λ s n h.
-      let (g, v, a, b) = near binary64 w 1062 W (lit< tt) s n (lt-of-le-of-lt (subst (λ (z : ℕ). n ≤ z) (sym (mul-assoc 67108864 (2 ^ 1062) w)) h) (mul-lt-mul-of-pos-right (lit< {2 ^ 1088} {2 ^ 1115} tt) W)) in
+      let (g, v, a, b) = near binary64 w 1062 W (lit< tt) s n (lt-of-le-of-lt (subst (λ (z : ℕ). n ≤ z) (sym (mul-assoc 67108864 (2 ^ 1062) w)) h) (mul-lt-mul-of-pos-right (lit< {m = 2 ^ 1088} {n = 2 ^ 1115} tt) W)) in
       (g, subst (λ (c : ℕ). HasValue (round binary64 s n c) s g c) (mul-assoc 4096 (2 ^ 1062) w) v, (a, b))
 }
 
@@ -161,16 +161,16 @@ held (inf false) h k w = clash refl k
 held (fin s m i) h k w = (s, m * up i * (4096 * (2 ^ 1062 * w)), (refl, held-is (m * up i) (2 ^ 1062) w (down i)))
 
 -- 2 and more is above 2^-52
+two-above : le two epsilon ≡ false
+unfolding le lt eq ofBits
+two-above = refl
+
+eps-number : isNan epsilon ≡ false
+unfolding isNan ofBits
+eps-number = refl
+
 far-lt : (z : Float) → le two z ≡ true → lt epsilon z ≡ true
 far-lt z h = test (lt epsilon z) (λ t. t) (λ t. clash two-above (le-le two z epsilon h (not-lt-le epsilon z eps-number (le-numbers two z h .1) t)))
-  where
-    two-above : le two epsilon ≡ false
-    unfolding le lt eq ofBits
-    two-above = refl
-
-    eps-number : isNan epsilon ≡ false
-    unfolding isNan ofBits
-    eps-number = refl
 
 -- the theorem
 pub named-by-counts : (correct error : Float) → apart correct error ≡ true → (column : List ℕ) → length column ≤ 255 → (i : ℕ) → i < 4 → Leads column i

@@ -62,7 +62,7 @@ module _ (c : ℕ) (C : 0 < c) where
       (sum-same (m * up i * down j) (n * up j * down i) (down i * down j) a b c (mul-pos (down-pos i) (down-pos j)) C
       (shared (m * up i) (down i) c a (down j) (p .1)) (shared-left (n * up j) (down j) c b (down i) (q .1)) binary64 s t)
 
-  lt-is : (x y : Float) (s t : Bool) (a b : ℕ) → HasValue x s a c → HasValue y t b c → lt x y ≡ below s a t b
+  pub lt-is : (x y : Float) (s t : Bool) (a b : ℕ) → HasValue x s a c → HasValue y t b c → lt x y ≡ below s a t b
   unfolding lt
   lt-is nan y s t a b p q = absurd p
   lt-is (inf u) y s t a b p q = absurd p
@@ -160,7 +160,7 @@ module _ (e : ℕ) (fine : Fine e) where
   unfolding sub
   less {x} {y} {v} {w} p q m h k =
       let u = 2 * base e - w in
-      let (r, l, n) = added {x} {neg y} {v} {u} p (negated {y} {w} {u} q (omega arith)) (omega arith) (omega arith) in
+      let (r, l, n) = added {x = x} {y = neg y} {v = v} {w = u} p (negated {y = y} {w = w} {u = u} q (omega arith)) (omega arith) (omega arith) in
       (r, l, (omega (arith, n .0), omega (arith, n .1)))
 
   -- the order is that of the places

@@ -129,7 +129,7 @@ module _ (e : ℕ) (fine : Fine e) (correct error : Float) (u w p q : ℕ) (corr
       (test (eqb k i)
       (λ o. rw o (stepped fine h correct-at correct-is (omega (arith, order)) (rw (t, o) at room) few))
       (λ o. rw o (stepped fine h error-at error-is most (rw (t, o) at room) few))))
-      (λ t. rw t (kept h))
+      (λ t. rw t (same refl (omega arith) refl (kept h)))
 
   walk : (column : List ℕ) (s : LaneSums) (f n : ℕ) → Stands e (sumAt s i) f n → f + fall p q i column ≤ 8160 * unit e → n + length column ≤ 255
       → Stands e (sumAt (summedAll (windowOf correct error) column s) i) (f + fall p q i column) (n + length column)
