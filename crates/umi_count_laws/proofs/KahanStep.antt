@@ -6,7 +6,7 @@ use native.Mathlib.Omega.{arith}
 use lib.Ieee.{Float}
 use Rattle.base_builder.specs.declared.observation.Sum.{Sum}
 use Rattle.base_builder.specs.Observation.{movedBy}
-use Rattle.umi_count_laws.proofs.Places.{Within, Fine, At, Found, unit, base, added, less}
+use Rattle.umi_count_laws.proofs.Places.{Within, Fine, At, unit, base, added, less}
 
 -- after at most n observations that lower the lane by f in all
 pub record Stands (e : ℕ) (s : Sum) (f n : ℕ) : Type 0 where

@@ -1,21 +1,19 @@
 -- Where the two logarithms of an observation are far enough apart, the lane that was observed most often is the one that the sums name. Assumes nothing.
-use mathlib.Core.Path.{_≡_, refl, sym, ap, _∙_, subst}
+use mathlib.Core.Path.{_≡_, refl, sym, _∙_, subst}
 use mathlib.Core.Bool.{Bool, true, false, _&&_}
 use mathlib.Core.Logic.{_≢_}
 use mathlib.Core.List.{List}
 use Prim.Native.Nat.{ℕ, suc, _+_, _-_, _*_, _%_, _^_, _≤_, _<_}
-use native.Mathlib.Nat.{mul-assoc, mul-comm, mul-left-comm, mul-right-comm, mul-pos, mul-le-mul, mul-le-mul-right, lt-of-le-of-lt, mul-lt-mul-of-pos-right}
+use native.Mathlib.Nat.{mul-assoc, mul-comm, mul-pos, mul-le-mul, mul-le-mul-right, lt-of-le-of-lt, mul-lt-mul-of-pos-right}
 use native.Mathlib.Omega.{arith}
-use lib.Dec.{T, ltb, lit<}
-use lib.IntN.{ℤ, pos, negsuc}
+use lib.Dec.{ltb, lit<}
 use lib.ListN.{length}
 use lib.Pow.{pow-pos}
 use lib.Ieee.{Float, nan, inf, fin, binary64, up, down, round, neg, lt, le, eq, ofBits, isNan}
-use lib.Ieee.Fits.{down-pos}
 use lib.Ieee.Exact.{HasValue}
 use lib.Ieee.Positive.{den, den-pos}
 use lib.Ieee.Scale.{finite}
-use borrow.Author.Tests.{ltb-true, ltb-false, lt-ltb}
+use borrow.Author.Tests.{ltb-false}
 use Rattle.float.specs.Ops.{_⊖_, bits, nought, one}
 use Rattle.float.proofs.Cases.{test, clash, both}
 use Rattle.float.proofs.Order.{lt-trans, lt-le, le-le, le-numbers, le-not-lt, not-lt-le}
@@ -28,7 +26,7 @@ use Rattle.base_builder_history.proofs.Named.{named}
 use Rattle.umi_column.specs.Sums.{noSums, windowOf, sumAt, summedAll}
 use Rattle.umi_column.specs.Counts.{countOf, apart, Leads}
 use Rattle.umi_count_laws.proofs.Rounding.{near}
-use Rattle.umi_count_laws.proofs.Places.{Within, Fine, At, over, under, unit, base, less, lt-is, lt-places, le-places}
+use Rattle.umi_count_laws.proofs.Places.{Fine, At, over, under, unit, base, less, lt-is, lt-places, le-places}
 use Rattle.umi_count_laws.proofs.KahanStep.{Stands}
 use Rattle.umi_count_laws.proofs.Sums.{fall, fall-most, falls, summed}
 

@@ -1,21 +1,19 @@
 -- Where a finite float lies on a scale of small steps, as a natural number: a rounded sum is within one step of the exact sum, and the order is that of the places.
 -- Assumes nothing.
-use mathlib.Core.Path.{_≡_, refl, sym, ap, _∙_, subst}
-use mathlib.Core.Bool.{Bool, true, false, not, _&&_, Bool·beq, cond}
-use Prim.Native.Nat.{ℕ, _+_, _-_, _*_, _^_, _≤_, _<_}
-use native.Mathlib.Nat.{mul-assoc, mul-right-comm, mul-left-comm, mul-comm, mul-pos, mul-le-mul-right, lt-of-le-of-lt}
+use mathlib.Core.Path.{_≡_, refl, ap, _∙_}
+use mathlib.Core.Bool.{Bool, true, false, not}
+use Prim.Native.Nat.{ℕ, _+_, _-_, _*_, _≤_, _<_}
+use native.Mathlib.Nat.{mul-assoc, mul-right-comm, mul-comm, mul-pos}
 use native.Mathlib.Omega.{arith}
-use lib.Dec.{ltb, lit≤, lit<}
-use lib.IntN.{ℤ}
-use lib.Pow.{pow-pos}
+use lib.Dec.{ltb}
 use lib.Ieee.{Float, nan, inf, fin, binary64, up, down, round, neg, sum, add, sub, below, lt, le}
 use lib.Ieee.Fits.{down-pos}
 use lib.Ieee.Exact.{HasValue}
-use borrow.Author.Tests.{ltb-true, ltb-false, lt-ltb, leb-false}
+use borrow.Author.Tests.{ltb-true, ltb-false, lt-ltb}
 use Rattle.float.specs.Ops.{_⊕_, _⊖_}
 use Rattle.float.proofs.Cases.{test, clash}
 use Rattle.float.proofs.Order.{le-not-lt}
-use Rattle.umi_count_laws.proofs.Rounding.{near, sum-same, below-same}
+use Rattle.umi_count_laws.proofs.Rounding.{sum-same, below-same}
 
 -- a and b differ by e at most
 abbrev pub Within : ℕ → ℕ → ℕ → Type 0

@@ -1,19 +1,18 @@
 -- How far a rounded fraction lies from the fraction, and that sums and comparisons see only the values of their operands. Assumes nothing.
 use mathlib.Core.Path.{_≡_, refl, sym, ap, _∙_, subst}
-use mathlib.Core.Bool.{Bool, true, false, _&&_, Bool·beq, cond}
+use mathlib.Core.Bool.{Bool, true, false, _&&_}
 use Prim.Native.Nat.{ℕ, suc, _+_, _-_, _*_, _/_, _%_, _^_, _≤_, _<_, compare}
 use native.Mathlib.Nat.{le-trans, le-of-eq, lt-of-le-of-lt, mul-assoc, mul-right-comm, mul-pos, mul-le-mul, mul-le-mul-right, mul-lt-mul-of-pos-right, mul-comm, mul-sub, le-of-mul-le-mul-right, lt-of-mul-lt-mul-right, zero-mul, div-add-mod', mod-lt, div-lt-iff-lt-mul, div-div-eq-div-mul}
 use native.Mathlib.Omega.{arith}
 use lib.Dec.{ltb}
 use lib.Pow.{pow-add, pow-pos, pow-mono, pow-lt}
-use lib.Ieee.{Float, nan, inf, fin, Format, binary64, prec, emax, low, up, down, size, units, round, sum, add, below, lt}
+use lib.Ieee.{Float, nan, inf, fin, Format, prec, emax, low, up, down, size, units, round, sum, below}
 use lib.Ieee.Digits.{size-le}
-use lib.Ieee.Fits.{nearest-le, kept-lt, round-is, down-pos}
+use lib.Ieee.Fits.{nearest-le, kept-lt, round-is}
 use lib.Ieee.Exact.{HasValue, units-val}
 use lib.Ieee.Nearest.{closest, nearest-ge}
 use lib.Ieee.Scale.{round-same}
 use borrow.Author.Tests.{ltb-true, ltb-false, lt-ltb, le-ltb}
-use Rattle.float.specs.Ops.{_⊕_}
 use Rattle.float.proofs.Cases.{test}
 
 -- ---- a fraction rounded

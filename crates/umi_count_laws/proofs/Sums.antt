@@ -1,13 +1,11 @@
 -- Each lane's sum after a column, to within five steps for each byte: the counts say how far the lane has fallen. Assumes nothing.
 use mathlib.Core.Path.{_≡_, refl, sym, ap, _∙_, subst}
-use mathlib.Core.Bool.{Bool, true, false}
 use mathlib.Core.List.{List, [], _∷_}
 use Prim.Native.Nat.{ℕ, zero, suc, _+_, _-_, _*_, _≤_, _<_}
 use native.Mathlib.Omega.{arith}
 use lib.Dec.{ltb, eqb}
-use lib.IntN.{pos}
-use lib.ListN.{length, getD, replicate}
-use lib.Ieee.{Float, nan, fin, ofBits}
+use lib.ListN.{length, getD}
+use lib.Ieee.{Float, nan, ofBits}
 use borrow.Author.Tests.{ltb-true, ltb-false, ne-eqb}
 use Rattle.float.specs.Ops.{nought, if_then_else_}
 use Rattle.float.proofs.Cases.{test}
@@ -18,7 +16,7 @@ use Rattle.base_builder.specs.Observation.{movedBy}
 use Rattle.umi_column.specs.declared.sums.LaneSums.{LaneSums}
 use Rattle.umi_column.specs.Sums.{noSums, windowOf, sumAt, movedAt, summedBy, summedAll}
 use Rattle.umi_column.specs.Counts.{countOf}
-use Rattle.umi_count_laws.proofs.Places.{Within, Fine, At, over, unit, base}
+use Rattle.umi_count_laws.proofs.Places.{Fine, At, over, unit, base}
 use Rattle.umi_count_laws.proofs.KahanStep.{Stands, kept, stepped}
 
 -- ---- what a column takes off a lane, where a base of its own takes off p and any other q
