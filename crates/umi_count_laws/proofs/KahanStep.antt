@@ -8,7 +8,7 @@ use Rattle.base_builder.specs.declared.observation.Sum.{Sum}
 use Rattle.base_builder.specs.Observation.{movedBy}
 use Rattle.umi_count_laws.proofs.Places.{Within, Fine, At, unit, base, added, less}
 
--- after at most n observations that lower the lane by f in all
+-- A lane and its compensation after n bytes that take off f in all: the lane is within 5 steps for each byte, the compensation within 3 of 0.
 pub record Stands (e : ℕ) (s : Sum) (f n : ℕ) : Type 0 where
   pub place : ℕ
   pub lane-at : At e (s .lane) place
@@ -17,15 +17,15 @@ pub record Stands (e : ℕ) (s : Sum) (f n : ℕ) : Type 0 where
   pub compensation-at : At e (s .compensation) error
   pub error-small : Within (3 * e) error (base e)
 
--- an observation that moves nothing
+-- a byte that is no base
 pub kept : {e : ℕ} {s : Sum} {f n : ℕ} → Stands e s f n → Stands e s f (n + 1)
 kept {e} {s} {f} {n} h = record {
   place = h .place;
   lane-at = h .lane-at;
-  lane-near = (omega (arith, h .lane-near .0), omega (arith, h .lane-near .1));
+  lane-near = omega arith;
   error = h .error;
   compensation-at = h .compensation-at;
-  error-small = h .error-small
+  error-small = h .error-small;
 }
 
 -- the step in numbers: y = u - k, t = v + y, d = t - v, c = d - y, each to within e, with b as the place of 0
@@ -36,7 +36,7 @@ module _ (e b u v k y t d c : ℕ) (error : Within (3 * e) k b) (y-near : Within
   error-moved : Within e (d + v) (t + b) → Within e (c + y) (d + b) → Within (3 * e) c b
   error-moved p q = omega arith
 
--- one slack more
+-- the same of all that the lane has fallen
 fallen : (e b u v t f g n : ℕ) → Within (5 * e) (t + b) (v + u) → u + g ≡ b → Within (5 * (n * e)) (v + f) b → Within (5 * ((n + 1) * e)) (t + (f + g)) b
 fallen e b u v t f g n p i q = omega arith
 
@@ -49,19 +49,9 @@ stepped {e} fine {s} {f} {n} h {x} {u} {g} p i small room few =
     let slack : n * e ≤ 254 * e = mul-le-mul-right e (omega arith) in
     let v = h .place in
     let k = h .error in
-    let near-a = h .lane-near .0 in
-    let near-b = h .lane-near .1 in
-    let small-a = h .error-small .0 in
-    let small-b = h .error-small .1 in
     let (y, y-at, y-near) = less e fine p (h .compensation-at) (omega arith) (omega arith) (omega arith) in
-    let y-a = y-near .0 in
-    let y-b = y-near .1 in
     let (t, t-at, t-near) = added e fine {v = v} {w = y} (h .lane-at) y-at (omega arith) (omega arith) in
-    let t-a = t-near .0 in
-    let t-b = t-near .1 in
     let (d, d-at, d-near) = less e fine {v = t} {w = v} t-at (h .lane-at) (omega arith) (omega arith) (omega arith) in
-    let d-a = d-near .0 in
-    let d-b = d-near .1 in
     let (c, c-at, c-near) = less e fine {v = d} {w = y} d-at y-at (omega arith) (omega arith) (omega arith) in
     record {
       place = t;
@@ -69,5 +59,5 @@ stepped {e} fine {s} {f} {n} h {x} {u} {g} p i small room few =
       lane-near = fallen e (base e) u v t f g n (lane-moved e (base e) u v k y t d c (h .error-small) y-near t-near) i (h .lane-near);
       error = c;
       compensation-at = c-at;
-      error-small = error-moved e (base e) u v k y t d c (h .error-small) y-near t-near d-near c-near
+      error-small = error-moved e (base e) u v k y t d c (h .error-small) y-near t-near d-near c-near;
     }

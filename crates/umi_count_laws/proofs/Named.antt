@@ -45,11 +45,11 @@ lowest = neg (bits 0x4040_0000_0000_0000)
 abbrev Placed : ℕ → Float → Type 0
 Placed e x = (v : ℕ) × (g : ℕ) × At e x v × (v + g ≡ base e) × (g ≤ 32 * unit e)
 
--- a value on the scale
 module _ (e : ℕ) (fine : Fine e) where
   unit-some : 0 < unit e
   unit-some = omega (arith, fine .some)
 
+  -- what the two are compared with
   lowest-value : HasValue lowest true (32 * unit e) (unit e)
   unfolding neg ofBits
   lowest-value = (refl, omega arith)
@@ -76,7 +76,7 @@ module _ (e : ℕ) (fine : Fine e) where
   unfolding ofBits
   two-at = over (2 * unit e) (refl, omega arith) refl
 
-  -- 2 apart as rounded: nearly so before
+  -- where the rounded difference is 2 or more, the exact one is but for a step
   far : (correct error : Float) (u p w q : ℕ) → At e correct u → u + p ≡ base e → p ≤ 32 * unit e → At e error w → w + q ≡ base e → q ≤ 32 * unit e
       → le two (correct ⊖ error) ≡ true → p + 2 * unit e ≤ q + e
   far correct error u p w q a i b c j d h =
@@ -109,6 +109,7 @@ module _ (e : ℕ) (fine : Fine e) (correct error : Float) (u w p q : ℕ) (corr
   gap : p + (q - p) ≡ q
   gap = omega (arith, order)
 
+  -- 255 observations of 32 at most
   fall-room : (i : ℕ) → fall p q i column ≤ 8160 * unit e
   fall-room i = omega (arith, fall-most p q (q - p) gap i column, mul-le-mul short most)
 
@@ -139,18 +140,19 @@ module _ (e : ℕ) (fine : Fine e) (correct error : Float) (u w p q : ℕ) (corr
       (clear ((i + 3) % 4) (omega arith) (λ (z : (i + 3) % 4 ≡ i). omega arith)))
 
 -- ---- a scale for any two values
+-- a step of 2^-12: a value up to 16384 is moved by far less
 fine-scale : (w : ℕ) → 0 < w → Fine (2 ^ 1062 * w)
 fine-scale w W = record {
   some = mul-pos (pow-pos 1062) W;
   round-near = λ s n h.
       let (g, v, a, b) = near binary64 w 1062 W (lit< tt) s n (lt-of-le-of-lt (subst (λ (z : ℕ). n ≤ z) (sym (mul-assoc 67108864 (2 ^ 1062) w)) h) (mul-lt-mul-of-pos-right (lit< {m = 2 ^ 1088} {n = 2 ^ 1115} tt) W)) in
-      (g, subst (λ (c : ℕ). HasValue (round binary64 s n c) s g c) (mul-assoc 4096 (2 ^ 1062) w) v, (a, b))
+      (g, subst (λ (c : ℕ). HasValue (round binary64 s n c) s g c) (mul-assoc 4096 (2 ^ 1062) w) v, (a, b));
 }
 
 held-is : (m h w d : ℕ) → m * (4096 * (h * (w * d))) ≡ m * (4096 * (h * w)) * d
 held-is m h w d = omega arith
 
--- between -32 and 0 all are finite
+-- what lies from -32 to 0 is finite, and a whole number of units
 held : (x : Float) → le lowest x ≡ true → le x nought ≡ true → (w : ℕ) → (s : Bool) × (a : ℕ) × HasValue x s a (unit (2 ^ 1062 * (w * den x)))
 unfolding le lt eq neg ofBits
 held nan h k w = clash refl h
@@ -170,7 +172,7 @@ eps-number = refl
 far-lt : (z : Float) → le two z ≡ true → lt epsilon z ≡ true
 far-lt z h = test (lt epsilon z) (λ t. t) (λ t. clash two-above (le-le two z epsilon h (not-lt-le epsilon z eps-number (le-numbers two z h .1) t)))
 
--- the theorem
+-- ---- the theorem
 pub named-by-counts : (correct error : Float) → apart correct error ≡ true → (column : List ℕ) → length column ≤ 255 → (i : ℕ) → i < 4 → Leads column i
     → uniqueMaxIndexWith (summedAll (windowOf correct error) column noSums .likelihoods) FgbioCompat ≡ i
 unfolding apart

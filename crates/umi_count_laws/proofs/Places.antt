@@ -19,19 +19,19 @@ use Rattle.umi_count_laws.proofs.Rounding.{sum-same, below-same}
 abbrev pub Within : ℕ → ℕ → ℕ → Type 0
 Within e a b = (a ≤ b + e) × (b ≤ a + e)
 
--- 1 is 4096 steps e, and the place of 0 is 16384 times that, so that a place is no negative number
+-- Places are counted in units as fine as the values need, and a step is e of them. 1 is 4096 steps, and 0 lies as far up as 16384 would, so that no place is negative.
 abbrev pub unit : ℕ → ℕ
 unit e = 4096 * e
 
 abbrev pub base : ℕ → ℕ
 base e = 67108864 * e
 
--- steps so small that no rounding below the place of 0 moves by more than one
+-- steps so large that rounding moves no value up to 16384 by more than one
 pub record Fine (e : ℕ) : Type 0 where
   pub some : 0 < e
   pub round-near : (s : Bool) (n : ℕ) → n ≤ base e → (g : ℕ) × HasValue (round binary64 s n (unit e)) s g (unit e) × Within e g n
 
--- the place of x on the scale; in steps that are finer still, a value need not be a multiple of e
+-- x is finite, and its place is v
 pub data At (e : ℕ) (x : Float) (v : ℕ) : Type 0 where
   over : (a : ℕ) → HasValue x false a (unit e) → v ≡ base e + a → At e x v
   under : (a : ℕ) → HasValue x true a (unit e) → v + a ≡ base e → At e x v
@@ -71,6 +71,7 @@ module _ (c : ℕ) (C : 0 < c) where
       (below-same (m * up i * down j) (n * up j * down i) (down i * down j) a b c (mul-pos (down-pos i) (down-pos j)) C
       (shared (m * up i) (down i) c a (down j) (p .1)) (shared-left (n * up j) (down j) c b (down i) (q .1)) s t)
 
+-- the other sign
 neg-is : (x : Float) (s : Bool) (a c : ℕ) → HasValue x s a c → HasValue (neg x) (not s) a c
 unfolding neg
 neg-is nan s a c h = h
@@ -81,18 +82,18 @@ module _ (e : ℕ) (fine : Fine e) where
   unit-some : 0 < unit e
   unit-some = omega (arith, fine .some)
 
-  -- n steps of 1 / unit e, rounded
+  -- n units, rounded
   rounded-over : (n : ℕ) → n + e ≤ base e → Found e (round binary64 false n (unit e)) 0 (base e + n)
   rounded-over n h =
       let (g, v, w) = fine .round-near false n (omega arith) in
-      (base e + g, over g v refl, (omega (arith, w .0), omega (arith, w .1)))
+      (base e + g, over g v refl, omega arith)
 
   rounded-under : (n : ℕ) → n + e ≤ base e → Found e (round binary64 true n (unit e)) n (base e)
   rounded-under n h =
       let (g, v, w) = fine .round-near true n (omega arith) in
-      (base e - g, under g v (omega (arith, w .0)), (omega (arith, w .0, w .1), omega (arith, w .0, w .1)))
+      (base e - g, under g v (omega arith), omega arith)
 
-  -- the exact sum's four cases by the signs
+  -- the four cases of a sum, by the signs
   over-over : (a b : ℕ) → a + b + e ≤ base e → Found e (sum binary64 false a false b (unit e)) 0 (base e + (a + b))
   unfolding sum
   over-over a b h = rounded-over (a + b) h
@@ -108,11 +109,11 @@ module _ (e : ℕ) (fine : Fine e) where
       (λ t.
       let l = ltb-true a b t in
       let (r, p, w) = rounded-under (b - a) (omega arith) in
-      rw t (r, p, (omega (arith, w .0), omega (arith, w .1))))
+      rw t (r, p, omega arith))
       (λ t.
       let l = ltb-false a b t in
       let (r, p, w) = rounded-over (a - b) (omega arith) in
-      rw t (r, p, (omega (arith, w .0), omega (arith, w .1))))
+      rw t (r, p, omega arith))
 
   under-over : (a b : ℕ) → a + e ≤ base e + b → b + e ≤ base e + a → Found e (sum binary64 true a false b (unit e)) a (base e + b)
   unfolding sum
@@ -121,32 +122,32 @@ module _ (e : ℕ) (fine : Fine e) where
       (λ t.
       let l = ltb-true a b t in
       let (r, p, w) = rounded-over (b - a) (omega arith) in
-      rw t (r, p, (omega (arith, w .0), omega (arith, w .1))))
+      rw t (r, p, omega arith))
       (λ t.
       let l = ltb-false a b t in
       test (ltb b a)
       (λ u.
       let (r, p, w) = rounded-under (a - b) (omega arith) in
-      rw (t, u) (r, p, (omega (arith, w .0), omega (arith, w .1))))
+      rw (t, u) (r, p, omega arith))
       (λ u.
       let m = ltb-false b a u in
       let (r, p, w) = rounded-over (a - b) (omega arith) in
-      rw (t, u) (r, p, (omega (arith, w .0), omega (arith, w .1)))))
+      rw (t, u) (r, p, omega arith)))
 
   -- a rounded sum
   pub added : {x y : Float} {v w : ℕ} → At e x v → At e y w → v + w + e ≤ 3 * base e → base e + e ≤ v + w → Found e (x ⊕ y) (base e) (v + w)
   added {x} {y} (over a p i) (over b q j) h k =
       let (r, l, n) = over-over a b (omega arith) in
-      rw (add-is (unit e) unit-some x y false false a b p q) (r, l, (omega (arith, n .0), omega (arith, n .1)))
+      rw (add-is (unit e) unit-some x y false false a b p q) (r, l, omega arith)
   added {x} {y} (over a p i) (under b q j) h k =
       let (r, l, n) = over-under a b (omega arith) (omega arith) in
-      rw (add-is (unit e) unit-some x y false true a b p q) (r, l, (omega (arith, n .0), omega (arith, n .1)))
+      rw (add-is (unit e) unit-some x y false true a b p q) (r, l, omega arith)
   added {x} {y} (under a p i) (over b q j) h k =
       let (r, l, n) = under-over a b (omega arith) (omega arith) in
-      rw (add-is (unit e) unit-some x y true false a b p q) (r, l, (omega (arith, n .0), omega (arith, n .1)))
+      rw (add-is (unit e) unit-some x y true false a b p q) (r, l, omega arith)
   added {x} {y} (under a p i) (under b q j) h k =
       let (r, l, n) = under-under a b (omega arith) in
-      rw (add-is (unit e) unit-some x y true true a b p q) (r, l, (omega (arith, n .0), omega (arith, n .1)))
+      rw (add-is (unit e) unit-some x y true true a b p q) (r, l, omega arith)
 
   -- a value turned round the place of 0
   negated : {y : Float} {w u : ℕ} → At e y w → w + u ≡ 2 * base e → At e (neg y) u
@@ -159,7 +160,7 @@ module _ (e : ℕ) (fine : Fine e) where
   less {x} {y} {v} {w} p q m h k =
       let u = 2 * base e - w in
       let (r, l, n) = added {x = x} {y = neg y} {v = v} {w = u} p (negated {y = y} {w = w} {u = u} q (omega arith)) (omega arith) (omega arith) in
-      (r, l, (omega (arith, n .0), omega (arith, n .1)))
+      (r, l, omega arith)
 
   -- the order is that of the places
   pub lt-places : {x y : Float} {v w : ℕ} → At e x v → At e y w → v < w → lt x y ≡ true

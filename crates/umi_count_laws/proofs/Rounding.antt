@@ -27,7 +27,7 @@ scaled (fin t m e) s a c w h = (h .0, sym (mul-assoc (m * up e) c w) ∙ ap (λ 
 between : (c q r u n : ℕ) → c * u ≤ suc q * u → q * u ≤ c * u → q * u + r ≡ n → r < u → (c * u ≤ n + u) × (n ≤ c * u + u)
 between c q r u n a b e l = omega arith
 
--- so the nearest whole number is less than one away, at most
+-- so the nearest whole number is at most one away
 closest-near : (n u : ℕ) → 0 < u → (closest n u * u ≤ n + u) × (n ≤ closest n u * u + u)
 closest-near n u U =
     let o = compare (n % u * 2) u in
@@ -37,6 +37,7 @@ closest-near n u U =
 across : (n x w l : ℕ) → n < x * w → 0 < l → n * l < x * (l * w)
 across n x w l h L = omega (arith, mul-lt-mul-of-pos-right h L)
 
+-- no more digits are dropped than there are above the p that are kept
 dropped : (z p j : ℕ) → z ≤ p + j → z - p ≤ j
 dropped z p j h = omega arith
 
@@ -48,7 +49,7 @@ unscaled q k w l n j L h b =
     let y : n ≤ q * k * w + k * w = le-of-mul-le-mul-right {k = l} (omega (arith, b .1)) L in
     (omega arith, omega arith)
 
--- n units of which w make up the format's smallest value, rounded: within 2 ^ j of those values where it is below 2 ^ (prec + j) of them
+-- n units, of which w make up the format's smallest value, rounded: within 2 ^ j of those values where it is below 2 ^ (prec + j) of them
 module _ (f : Format) (w j : ℕ) (W : 0 < w) (most : prec f + j < low f + suc (emax f)) where
   pub near : (s : Bool) (n : ℕ) → n < 2 ^ (prec f + j) * w
       → (g : ℕ) × HasValue (round f s n (2 ^ low f * w)) s g (2 ^ low f * w) × (g ≤ n + 2 ^ j * w) × (n ≤ g + 2 ^ j * w)
@@ -63,11 +64,10 @@ module _ (f : Format) (w j : ℕ) (W : 0 < w) (most : prec f + j < low f + suc (
       let u = c * 2 ^ k in
       let q = closest v u in
       let few : q ≤ 2 ^ prec f =
-          le-trans (nearest-le (v / u) (compare (v % u * 2) u)) (subst (λ (x : ℕ). x < 2 ^ prec f) (div-div-eq-div-mul v c (2 ^ k)) (kept-lt (prec f) (v / c))) in
+      le-trans (nearest-le (v / u) (compare (v % u * 2) u)) (subst (λ (x : ℕ). x < 2 ^ prec f) (div-div-eq-div-mul v c (2 ^ k)) (kept-lt (prec f) (v / c))) in
       let fine : q * 2 ^ k < 2 ^ (low f + suc (emax f)) =
-          lt-of-le-of-lt (le-trans (mul-le-mul few (pow-mono K)) (le-of-eq (sym (pow-add 2 (prec f) j)))) (pow-lt most) in
-      let b = unscaled q (2 ^ k) w l n (2 ^ j * w) L (mul-le-mul-right w (pow-mono K)) (closest-near v u (mul-pos C (pow-pos k))) in
-      (
+      lt-of-le-of-lt (le-trans (mul-le-mul few (pow-mono K)) (le-of-eq (sym (pow-add 2 (prec f) j)))) (pow-lt most) in
+      let b = unscaled q (2 ^ k) w l n (2 ^ j * w) L (mul-le-mul-right w (pow-mono K)) (closest-near v u (mul-pos C (pow-pos k))) in (
         q * 2 ^ k * w,
         subst (λ (x : Float). HasValue x s (q * 2 ^ k * w) c) (sym (round-is f s n c)) (scaled (units f s q k) s (q * 2 ^ k) l w (units-val f s q k fine)),
         b .0,
@@ -76,6 +76,7 @@ module _ (f : Format) (w j : ℕ) (W : 0 < w) (most : prec f + j < low f + suc (
 
 -- ---- by the values alone: A / C is a / c, and B / C is b / c
 module _ (A B C a b c : ℕ) (D : 0 < C) (d : 0 < c) (p : A * c ≡ a * C) (q : B * c ≡ b * C) where
+  -- so the one is below the other where it is, and sums and differences are equal
   ltb-same : ltb A B ≡ ltb a b
   ltb-same =
       test (ltb a b)

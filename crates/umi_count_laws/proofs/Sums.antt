@@ -27,6 +27,7 @@ module _ (p q : ℕ) where
       if ltb (laneOfByte x) noLane then (if eqb (laneOfByte x) i then p else q)
       else 0
 
+  -- a column
   unfoldable pub fall : ℕ → List ℕ → ℕ
   fall i [] = 0
   fall i (x ∷ xs) = lowers i x + fall i xs
@@ -55,6 +56,7 @@ module _ (p q : ℕ) where
         (λ t. test (eqb (laneOfByte x) i) (λ u. rw (t, u) (omega arith)) (λ u. rw (t, u) (omega arith)))
         (λ t. rw t (omega arith))
 
+    -- no more than q for each byte
     pub fall-most : (i : ℕ) (column : List ℕ) → fall i column ≤ length column * q
     unfolding fall
     fall-most i [] = omega arith
@@ -91,6 +93,7 @@ module _ (correct error : Float) where
   moved-lane k i h l s f = lanes-at (λ j. f (movedAt (windowOf correct error) (3 - k) s j)) nan i l ∙ ap (λ (v : Float). f (movedBy v (sumAt s i))) (window-lane k i h l)
 
 -- ---- the column
+-- what stands, said of equal numbers
 same : {e f f' n n' : ℕ} {s s' : Sum} → s ≡ s' → f ≡ f' → n ≡ n' → Stands e s f n → Stands e s' f' n'
 same {e} {f} {f'} {n} {n'} {s} {s'} p q r h =
     subst (λ (z : Sum). Stands e z f' n') p (subst (λ (z : ℕ). Stands e s z n') q (subst (λ (z : ℕ). Stands e s f z) r h))
@@ -101,10 +104,10 @@ unfolding noSums ofBits
 start e i h = same {s = record { lane = nought; compensation = nought }} (at-first i h) refl refl record {
   place = base e;
   lane-at = over 0 (refl, omega arith) (omega arith);
-  lane-near = (omega arith, omega arith);
+  lane-near = omega arith;
   error = base e;
   compensation-at = over 0 (refl, omega arith) (omega arith);
-  error-small = (omega arith, omega arith)
+  error-small = omega arith;
 }
   where
     at-first : (i : ℕ) → i < 4 → record { lane = nought; compensation = nought } ≡ sumAt noSums i
@@ -115,6 +118,7 @@ start e i h = same {s = record { lane = nought; compensation = nought }} (at-fir
     at-first (suc (suc (suc (suc i)))) h = absurd (omega arith)
 
 module _ (e : ℕ) (fine : Fine e) (correct error : Float) (u w p q : ℕ) (correct-at : At e correct u) (error-at : At e error w) (correct-is : u + p ≡ base e) (error-is : w + q ≡ base e) (order : p ≤ q) (most : q ≤ 32 * unit e) (i : ℕ) (inside : i < 4) where
+  -- one byte
   byte : (x : ℕ) (s : LaneSums) (f n : ℕ) → Stands e (sumAt s i) f n → f + lowers p q i x ≤ 8160 * unit e → n < 255
       → Stands e (sumAt (summedBy (windowOf correct error) x s) i) (f + lowers p q i x) (n + 1)
   unfolding summedBy lowers
@@ -129,6 +133,7 @@ module _ (e : ℕ) (fine : Fine e) (correct error : Float) (u w p q : ℕ) (corr
       (λ o. rw o (stepped fine h error-at error-is most (rw (t, o) at room) few))))
       (λ t. rw t (same refl (omega arith) refl (kept h)))
 
+  -- a column
   walk : (column : List ℕ) (s : LaneSums) (f n : ℕ) → Stands e (sumAt s i) f n → f + fall p q i column ≤ 8160 * unit e → n + length column ≤ 255
       → Stands e (sumAt (summedAll (windowOf correct error) column s) i) (f + fall p q i column) (n + length column)
   unfolding summedAll fall
@@ -137,6 +142,7 @@ module _ (e : ℕ) (fine : Fine e) (correct error : Float) (u w p q : ℕ) (corr
       same refl (omega arith) (omega arith)
       (walk xs (summedBy (windowOf correct error) x s) (f + lowers p q i x) (n + 1) (byte x s f n h (omega arith) (omega arith)) (omega arith) (omega arith))
 
+  -- from the first byte on
   pub summed : (column : List ℕ) → fall p q i column ≤ 8160 * unit e → length column ≤ 255
       → Stands e (sumAt (summedAll (windowOf correct error) column noSums) i) (fall p q i column) (length column)
   summed column room few = same refl (omega arith) (omega arith) (walk column noSums 0 0 (start e i inside) (omega arith) (omega arith))

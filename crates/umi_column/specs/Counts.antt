@@ -1,0 +1,24 @@
+-- How many bytes of a column are each base, and when these counts alone name the lane. Definitions only.
+use Prim.Native.Nat.{ℕ, suc, _<_}
+use mathlib.Core.Bool.{Bool, _&&_}
+use mathlib.Core.List.{List, [], _∷_}
+use mathlib.Core.Logic.{_≢_}
+use lib.Dec.{eqb}
+use lib.Ieee.{Float, le, neg}
+use Rattle.float.specs.Ops.{_⊖_, bits, nought, if_then_else_}
+use Rattle.tie_rules.specs.Lanes.{laneOfByte}
+
+-- how many bytes stand for lane k
+unfoldable pub countOf : ℕ → List ℕ → ℕ
+countOf k [] = 0
+countOf k (x ∷ xs) =
+    if eqb (laneOfByte x) k then suc (countOf k xs)
+    else countOf k xs
+
+-- the two logarithms of an observation lie from -32 to 0 and at least 2 apart: then no rounding puts a lane above one that was observed more often
+unfoldable pub apart : Float → Float → Bool
+apart correct error = le (neg (bits 0x4040_0000_0000_0000)) error && le correct nought && le (bits 0x4000_0000_0000_0000) (correct ⊖ error)
+
+-- lane i was observed more often than each other
+abbrev pub Leads : List ℕ → ℕ → Type 0
+Leads column i = (j : ℕ) → j < 4 → j ≢ i → countOf j column < countOf i column
