@@ -1,3 +1,4 @@
+mod Narrowed
 pub mod Middle
 pub mod Promised
 pub mod Demand3
