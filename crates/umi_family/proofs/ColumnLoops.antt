@@ -72,6 +72,15 @@ module _ (w : ℕ) (s ps : List ℕ) where
   pub summed-length : (window : List Float) (rule : TieRule) → length (bytesSummed window rule (columnsAt w s ps)) ≡ w
   summed-length window rule = length-map (columnsAt w s ps) _ ∙ columns-length
 
+  -- a column more
+  pub column-more : (window : List Float) (rule : TieRule) (text : List ℕ) (at x : ℕ) → length text ≡ w → at < w → 0 < length ps
+      → x ≡ byteBy (summedAll window (bytesAt at s ps) noSums .likelihoods) rule (byteAt s (byteAt ps 0 + 1 + at))
+      → take at text ≡ take at (bytesSummed window rule (columnsAt w s ps)) → take (at + 1) (set text at x) ≡ take (at + 1) (bytesSummed window rule (columnsAt w s ps))
+  column-more window rule text at x n h some e told =
+      let bytes = bytesSummed window rule (columnsAt w s ps) in
+      let size : length bytes ≡ w = summed-length window rule in
+      filled-more text bytes at 0 x (omega arith) (omega arith) (e ∙ sym (summed-at window rule at h some)) told
+
   -- two columns more
   pub pair-more : (window : List Float) (rule : TieRule) (text : List ℕ) (at : ℕ) (left right : LaneSums) (x y : ℕ)
       → length text ≡ w → at + 1 < w → 0 < length ps

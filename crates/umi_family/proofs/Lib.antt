@@ -1,3 +1,5 @@
 pub mod RowLoops
 pub mod ColumnLoops
+pub mod CountLoops
+pub mod ByCounts
 pub mod Likeness

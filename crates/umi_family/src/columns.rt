@@ -2,9 +2,11 @@
 ghost use mathlib.Core.Path.{_≡_};
 ghost use Prim.Native.Nat.{_+_, _-_};
 ghost use lib.ListN.{length, take};
-ghost use Rattle.umi_column.specs.Sums.{noSums, summedAll};
+ghost use Rattle.umi_column.specs.Sums.{noSums, windowOf, summedAll};
 ghost use Rattle.umi_family.specs.Rows.{Fits, bytesAt, columnsAt};
 ghost use Rattle.umi_family.specs.Family.{bytesBy, bytesSummed, lastBy};
+use crate::counts::counts_decide;
+use crate::leads::call_counted;
 use base_builder::ConsensusBaseBuilder;
 use rate_tables::AdjustedEntry;
 use tie_rules::TieRule;
@@ -70,6 +72,29 @@ fn call_pairs(rule: TieRule, window: &[f64; 8], set: &[u8], places: &[usize], te
     }
 }
 
+// The bytes of all columns but the last: by counts where these decide and have room, else by sums
+// alone. Counts pay from two strings on.
+fn call_others(
+    rule: TieRule,
+    correct: f64,
+    error_per_alt: f64,
+    set: &[u8],
+    places: &[usize],
+    text: &mut [u8],
+)
+    requires { ⌜ Fits (length (now text)) (now set) (now places) ⌝ }
+    ensures { λ _. ⌜ take (length (now (text .entry)) - 1) (now (text .exit)) ≡ take (length (now (text .entry)) - 1) (bytesSummed (windowOf correct «error_per_alt») rule (columnsAt (length (now (text .entry))) (now (set .entry)) (now (places .entry)))) ⌝ }
+{
+    let window = window_of(correct, error_per_alt);
+    if text.len() <= 255 {
+        if counts_decide(rule, correct, error_per_alt) {
+            call_counted(&window, set, places, text);
+            return;
+        }
+    }
+    call_pairs(rule, &window, set, places, text);
+}
+
 // The last column is added to a builder, since it is to be as that column leaves it.
 pub(crate) fn call_columns(
     builder: ConsensusBaseBuilder,
@@ -87,10 +112,9 @@ pub(crate) fn call_columns(
     }
     let correct = entry.correct;
     let error_per_alt = entry.error_per_alt;
-    let window = window_of(correct, error_per_alt);
     let rule = builder.tie_rule;
     let last = text.len() - 1;
-    call_pairs(rule, &window, set, places, text);
+    call_others(rule, correct, error_per_alt, set, places, text);
     let column = gather(set, places, last);
     let n = places.len();
     let after = add_column(builder.reset(), correct, error_per_alt, &column[..n]);

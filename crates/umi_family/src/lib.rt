@@ -1,6 +1,8 @@
 // A family: strings of one width that lie in a set. Each place is that of a string's length byte.
 mod calls;
 mod columns;
+mod counts;
+mod leads;
 mod rows;
 mod verdicts;
 

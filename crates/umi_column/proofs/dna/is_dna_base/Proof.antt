@@ -1,13 +1,12 @@
--- `is_dna_base`: the byte is one of the ten letters, and those alone are DNA. Assumes nothing.
+-- `is_dna_base`: the ten tests, computed at all 256 bytes. Assumes nothing.
 use mathlib.Core.Path.{_≡_, refl}
-use mathlib.Core.Bool.{Bool, true, false, Bool·beq, or-assoc, or-false}
-use Prim.Native.Nat.{ℕ, _<_}
+use mathlib.Core.Bool.{Bool, true, false, _||_, Bool·beq}
+use Prim.Native.Nat.{ℕ}
 use native.Mathlib.Omega.{arith}
-use lib.Dec.{T}
+use lib.Dec.{T, eqb}
+use Rattle.float.specs.Claims.{every}
 use Rattle.float.proofs.Claims.{below}
-use Rattle.umi_column.specs.Dna.{isDnaBase}
-use Rattle.umi_column.specs.DnaClaims.{isDnaLetter, dnaAt}
-use Rattle.umi_column.proofs.DnaClaims.{dna-claims}
+use Rattle.umi_column.specs.Dna.{toAsciiUppercase, isDnaBase}
 use Rattle.umi_column.proofs.dna.is_dna_base.Statement.{statement}
 use Rattle.umi_column.proofs.dna.is_dna_base.Tie as tie
 
@@ -17,13 +16,21 @@ same true false h = absurd h
 same false true h = absurd h
 same false false h = refl
 
-letter : (x : ℕ) → x < 256 → isDnaBase x ≡ isDnaLetter x
-unfolding dnaAt
-letter x h = same (isDnaBase x) (isDnaLetter x) (below dnaAt 256 dna-claims x h)
+-- what the code makes of a byte
+abbrev tested : ℕ → Bool
+tested x =
+    (eqb x 65 || eqb x 97 || (eqb x 67 || eqb x 99)) || (eqb x 71 || eqb x 103 || (eqb x 84 || eqb x 116)) || (eqb x 78 || eqb x 110)
+
+unfoldable testedAt : ℕ → Bool
+testedAt x = Bool·beq (tested x) (isDnaBase x)
+
+all-tested : T (every testedAt 0 256)
+unfolding every testedAt isDnaBase toAsciiUppercase
+all-tested = tt
 
 returns : tie.Need-returns
-unfolding isDnaLetter
-returns c = rw (letter (c .args .b) (omega arith)) (simp (or-assoc, or-false))
+unfolding testedAt
+returns c = same (tested (c .args .b)) (isDnaBase (c .args .b)) (below testedAt 256 all-tested (c .args .b) (omega arith))
 
 pub is-dna-base-spec : {M : Type 1} → statement M
 is-dna-base-spec = tie.close (tie.spec returns)

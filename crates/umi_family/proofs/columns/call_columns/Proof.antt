@@ -15,18 +15,15 @@ returns : tie.Need-returns
 returns c =
     let a = c .before .before .before .before .args in no-columns (a .entry) (a .builder) (a .set .now) (a .places .now) (a .text .now) (c .if1 .taken)
 
-window-of-requires : tie.Need-window-of-requires
-window-of-requires c κs = search needs
-
 sub-last : tie.Need-sub-last
 sub-last c = search needs
 
-call-pairs-requires : tie.Need-call-pairs-requires
-call-pairs-requires c κs = search needs
+call-others-requires : tie.Need-call-others-requires
+call-others-requires c κs = search needs
 
 gather-requires : tie.Need-gather-requires
 gather-requires c κs =
-    let s = c .before .before .before .before .before .before .before .before .before .before in
+    let s = c .before .before .before .before .before .before .before .before in
     let a = s .args in
     let w = length (a .text .now) in
     fits-less (w - 1 + 1) w (a .set .now) (a .places .now) (omega arith) (s .pre)
@@ -39,7 +36,7 @@ array-share-prefix-column c = search needs
 
 slice-aggregate-add-column : tie.Need-slice-aggregate-add-column
 slice-aggregate-add-column c =
-    let a = c .before .before .before .before .before .before .before .before .before .before .before .before .before .args in gathered-count (a .set .now) (a .places .now) _ _ (c .before .before .gather .ensures)
+    let a = c .before .before .before .before .before .before .before .before .before .before .before .args in gathered-count (a .set .now) (a .places .now) _ _ (c .before .before .gather .ensures)
 
 add-column-requires : tie.Need-add-column-requires
 add-column-requires c κs = search needs
@@ -58,18 +55,17 @@ same-length c = search needs
 
 returns-2 : tie.Need-returns-2
 returns-2 c =
-    let s = c .before .before .before .before .before .before .before .before .before .before .before .before .before .before .before in
+    let s = c .before .before .before .before .before .before .before .before .before .before .before .before .before in
     let a = s .args in
     let w = length (a .text .now) in
     let g = c .before .before .before .before .gather in
-    let p = c .before .before .before .before .before .before .before .call-pairs in
-    let text = p .last .1 .1 .1 .1 .0 in
-    let size : length text ≡ w = p .kept .1 .1 .1 .1 .0 in
-    let told = rw (c .before .before .before .before .before .before .before .before .before .before .window-of .ensures) at (p .ensures) in
+    let p = c .before .before .before .before .before .before .before .call-others in
+    let text = p .last .1 .1 .1 .1 .1 .0 in
+    let size : length text ≡ w = p .kept .1 .1 .1 .1 .1 .0 in
     let after = c .before .add-column in
     let added : after .result ≡ builderBy (a .entry) (a .builder) (bytesAt (w - 1) (a .set .now) (a .places .now)) = rw (g .ensures, c .before .before .before .reset .ensures) at (after .ensures) in
     let first = gathered-first (a .set .now) (a .places .now) (w - 1) (g .result) (g .ensures) (s .pre .0) in
-    last-column (a .entry) (a .builder) (a .set .now) (a .places .now) w (omega (arith, c .before .before .before .before .before .before .before .before .before .before .before .if1 .left)) (s .pre .1) text size told (after .result) added (c .consensus-byte .result)
+    last-column (a .entry) (a .builder) (a .set .now) (a .places .now) w (omega (arith, c .before .before .before .before .before .before .before .before .before .if1 .left)) (s .pre .1) text size (p .ensures) (after .result) added (c .consensus-byte .result)
     (rw first at (c .consensus-byte .ensures))
 
 pub call-columns-spec : {M : Type 1} → statement M
@@ -77,9 +73,8 @@ call-columns-spec =
     tie.close
     (tie.spec
     returns
-    window-of-requires
     sub-last
-    call-pairs-requires
+    call-others-requires
     gather-requires
     reset-requires
     array-share-prefix-column

@@ -1,0 +1,51 @@
+-- A lane that was observed more often than each other is the one that the sums name. Assumes nothing.
+use mathlib.Core.Path.{_≡_, refl}
+use mathlib.Core.Bool.{true}
+use mathlib.Core.List.{List, [], _∷_}
+use mathlib.Core.Logic.{_≢_}
+use Prim.Native.Nat.{ℕ, suc, zero, _<_}
+use native.Mathlib.Omega.{arith}
+use lib.Ieee.{Float}
+use lib.ListN.{getD}
+use Rattle.umi_column.specs.Sums.{windowOf}
+use Rattle.umi_column.specs.Counts.{countOf, apart, Leads}
+use Rattle.umi_count_laws.proofs.Named.{named-by-counts}
+use Rattle.umi_family.specs.Counts.{Above, Faithful}
+
+-- the logarithms lie apart
+pub faithful : (correct error : Float) → apart correct error ≡ true → Faithful (windowOf correct error)
+faithful = named-by-counts
+
+-- ---- of four counts, one that is above the three others
+four : (P : ℕ → Type 0) → P 0 → P 1 → P 2 → P 3 → (j : ℕ) → j < 4 → P j
+four P a c g t zero h = a
+four P a c g t (suc zero) h = c
+four P a c g t (suc (suc zero)) h = g
+four P a c g t (suc (suc (suc zero))) h = t
+four P a c g t (suc (suc (suc (suc j)))) h = absurd (omega arith)
+
+module _ (a c g t : ℕ) where
+  abbrev counts : List ℕ
+  counts = a ∷ c ∷ g ∷ t ∷ []
+
+  pub above-first : (c < a) × (g < a) × (t < a) → Above counts 0
+  above-first h = four (λ (j : ℕ). j ≢ 0 → getD counts j 0 < a) (λ n. absurd (n refl)) (λ _. h .0) (λ _. h .1) (λ _. h .2)
+
+  pub above-second : (a < c) × (g < c) × (t < c) → Above counts 1
+  above-second h = four (λ (j : ℕ). j ≢ 1 → getD counts j 0 < c) (λ _. h .0) (λ n. absurd (n refl)) (λ _. h .1) (λ _. h .2)
+
+  pub above-third : (a < g) × (c < g) × (t < g) → Above counts 2
+  above-third h = four (λ (j : ℕ). j ≢ 2 → getD counts j 0 < g) (λ _. h .0) (λ _. h .1) (λ n. absurd (n refl)) (λ _. h .2)
+
+  pub above-fourth : (a < t) × (c < t) × (g < t) → Above counts 3
+  above-fourth h = four (λ (j : ℕ). j ≢ 3 → getD counts j 0 < t) (λ _. h .0) (λ _. h .1) (λ _. h .2) (λ n. absurd (n refl))
+
+-- the four counts are the column's
+counts-at : (column : List ℕ) (a c g t : ℕ) → a ≡ countOf 0 column → c ≡ countOf 1 column → g ≡ countOf 2 column → t ≡ countOf 3 column
+    → (j : ℕ) → j < 4 → getD (a ∷ c ∷ g ∷ t ∷ []) j 0 ≡ countOf j column
+counts-at column a c g t e f p q = four (λ (j : ℕ). getD (a ∷ c ∷ g ∷ t ∷ []) j 0 ≡ countOf j column) e f p q
+
+pub leads : (column : List ℕ) (a c g t : ℕ) → a ≡ countOf 0 column → c ≡ countOf 1 column → g ≡ countOf 2 column → t ≡ countOf 3 column
+    → (i : ℕ) → i < 4 → Above (a ∷ c ∷ g ∷ t ∷ []) i → Leads column i
+leads column a c g t e f p q i h above j l n =
+    rw (← counts-at column a c g t e f p q j l, ← counts-at column a c g t e f p q i h) (above j l n)

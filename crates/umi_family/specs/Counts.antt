@@ -1,0 +1,50 @@
+-- How many of the strings have a base at each place. Definitions only.
+use mathlib.Core.Path.{_≡_}
+use mathlib.Core.Bool.{_||_}
+use mathlib.Core.List.{List}
+use mathlib.Core.Logic.{_≢_}
+use Prim.Native.Nat.{ℕ, _+_, _≤_, _<_}
+use lib.Dec.{eqb}
+use lib.Ieee.{Float}
+use lib.ListN.{length, getD}
+use Rattle.float.specs.Ops.{if_then_else_}
+use Rattle.lent_bytes.specs.Lists.{byteAt}
+use Rattle.tie_rules.specs.declared.tie_rule.TieRule.the-variants.{FgbioCompat}
+use Rattle.tie_rules.specs.Lanes.{laneOfByte}
+use Rattle.tie_rules.specs.Ties.{uniqueMaxIndexWith}
+use Rattle.umi_column.specs.Sums.{noSums, summedAll}
+use Rattle.umi_column.specs.Counts.{countOf, Leads}
+use Rattle.umi_family.specs.Rows.{bytesAt}
+
+-- 1 for either letter, and 0 for any other byte
+abbrev pub hitBy : ℕ → ℕ → ℕ → ℕ
+hitBy upper lower x =
+    if eqb x upper || eqb x lower then 1
+    else 0
+
+-- 1 for a byte of lane i, and 0 for any other
+abbrev pub oneIn : ℕ → ℕ → ℕ
+oneIn i x =
+    if eqb (laneOfByte x) i then 1
+    else 0
+
+-- one more can be counted at each of w places
+abbrev pub Room : ℕ → List ℕ → Type 0
+Room w counts = (w ≤ length counts) × ((k : ℕ) → k < w → byteAt counts k < 255)
+
+-- at each place of a string that has a byte of lane i one more is counted
+abbrev pub Counted : ℕ → List ℕ → List ℕ → List ℕ → Type 0
+Counted i row before after =
+    (length after ≡ length before) × ((k : ℕ) → k < length row → byteAt after k ≡ byteAt before k + oneIn i (byteAt row k))
+
+-- at each of w places the bytes of lane i in the column there
+abbrev pub CountsOf : ℕ → ℕ → List ℕ → List ℕ → List ℕ → Type 0
+CountsOf i w s ps counts = (k : ℕ) → k < w → byteAt counts k ≡ countOf i (bytesAt k s ps)
+
+-- of four counts that of lane i is above each other
+abbrev pub Above : List ℕ → ℕ → Type 0
+Above counts i = (j : ℕ) → j < 4 → j ≢ i → getD counts j 0 < getD counts i 0
+
+-- the sums by this window name the lane that was observed more often than each other
+abbrev pub Faithful : List Float → Type 0
+Faithful window = (column : List ℕ) → length column ≤ 255 → (i : ℕ) → i < 4 → Leads column i → uniqueMaxIndexWith (summedAll window column noSums .likelihoods) FgbioCompat ≡ i
