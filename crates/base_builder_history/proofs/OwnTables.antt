@@ -15,14 +15,14 @@ use Rattle.float.proofs.Order.{lt-trans, lt-le}
 use Rattle.phred.specs.Phred.{phredToLnErrorProb}
 use Rattle.phred.proofs.Levels.{Level, levels}
 use Rattle.gap_tables.specs.declared.gaps.UnanimousGapTables.{UnanimousGapTables}
-use Rattle.gap_tables.specs.Thresholds.{gap0, threshold, thresholdWith}
+use Rattle.gap_tables.specs.Thresholds.{gap0, thresholdWith}
 use Rattle.gap_tables.specs.Gaps.{unanimousQualityFromGap, thresholdAt, capOf, gapTables}
 use Rattle.rate_tables.proofs.Filled.{level-at}
 use Rattle.gap_tables.proofs.Demand3.{thresholds-of-a-rate}
 use Rattle.tie_rules.specs.Lanes.{baseOf}
 use Rattle.lane_calls.specs.declared.call.Reply.{Reply}
 use Rattle.lane_calls.specs.declared.call.Reply.the-variants.{Replied, Deferred}
-use Rattle.lane_calls.specs.Calls.{called, outside}
+use Rattle.lane_calls.specs.Calls.{called}
 use Rattle.unanimous_shortcut.specs.Search.{entry, partitionPoint}
 use Rattle.unanimous_shortcut.proofs.PartitionPoint.{point-above, point-below}
 use Rattle.unanimous_shortcut.specs.Unanimous.{leads, clearsCap, clearsLower, clearsUpper, capReply, bracketReply, gapReply}

@@ -12,11 +12,10 @@ use Rattle.refusals.specs.Result.{Result, refused, accepted, andThen}
 use Rattle.string_set.specs.Readers.{alone}
 use Rattle.string_set.proofs.Readers.{lone-long, lone-fits}
 use Rattle.column_file.specs.declared.settings.Settings.{Settings}
-use Rattle.column_file.specs.declared.file.Reading.{Reading}
 use Rattle.column_file.specs.declared.file.Reading.the-variants as reading
 use Rattle.column_file.specs.Format.{Sections, sections}
-use Rattle.column_file.specs.Reading.{settingsOf, columnsVerdict, File, fileOf, readFile}
-use Rattle.column_file.specs.Places.{columnsSize, readingOf, readingNumber}
+use Rattle.column_file.specs.Reading.{settingsOf, columnsVerdict, fileOf, readFile}
+use Rattle.column_file.specs.Places.{columnsSize, readingOf}
 use Rattle.column_file.proofs.SettingsRead.{bytesOf, only-bad, settings-three}
 use Rattle.column_file.proofs.Sections.{parts, Found}
 

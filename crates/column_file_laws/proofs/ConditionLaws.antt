@@ -1,18 +1,16 @@
 -- Conditions 1 to 4, each by itself. Assumes nothing.
-use mathlib.Core.Path.{_≡_, refl, sym, _∙_, ap}
+use mathlib.Core.Path.{_≡_, refl, _∙_, ap}
 use mathlib.Core.Bool.{Bool, true, false, _||_}
 use mathlib.Core.List.{List, [], _∷_}
 use Prim.Native.Nat.{ℕ, _≤_, _<_}
 use borrow.Author.Tests.{lt-ltb, le-ltb}
-use lib.Dec.{eqb}
 use lib.ListN.{length}
-use Rattle.float.proofs.Cases.{test}
 use Rattle.lent_bytes.specs.Lists.{any}
 use Rattle.refusals.specs.declared.Refusal.the-variants.{CutOff, AbsentQuality}
 use Rattle.refusals.specs.declared.Verdict.{Verdict}
 use Rattle.refusals.specs.declared.Verdict.the-variants.{Sound, Refused}
 use Rattle.refusals.specs.Refusals.{numberIn}
-use Rattle.refusals.specs.Result.{Result, refused, accepted, orElse, firstRefused}
+use Rattle.refusals.specs.Result.{refused, accepted, orElse, firstRefused}
 use Rattle.float.specs.Ops.{if_then_else_}
 use Rattle.string_set.specs.Readers.{alone}
 use Rattle.column_file.specs.Format.{Observation, Sections, sections}

@@ -8,7 +8,7 @@ use lib.ListN.{length}
 use Rattle.lent_bytes.specs.Lists.{any, byteAt}
 use Rattle.refusals.specs.declared.Refusal.the-variants.{CutOff}
 use Rattle.refusals.specs.Refusals.{numberIn}
-use Rattle.refusals.specs.Result.{Result, refused, accepted}
+use Rattle.refusals.specs.Result.{refused, accepted}
 use Rattle.string_set.specs.Readers.{alone}
 use Rattle.column_file.specs.Format.{Observation, Sections, sections}
 use Rattle.column_file.specs.Reading.{readFile}

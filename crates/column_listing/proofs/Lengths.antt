@@ -1,11 +1,11 @@
 -- How long a text can be. Assumes nothing.
-use mathlib.Core.Path.{_≡_, sym, _∙_, ap, subst}
-use mathlib.Core.Bool.{Bool, true, false, _&&_, _||_}
-use mathlib.Core.List.{List, [], _∷_, _++_, map}
-use Prim.Native.Nat.{ℕ, zero, suc, _+_, _*_, _≤_, _<_}
+use mathlib.Core.Path.{_≡_}
+use mathlib.Core.Bool.{Bool, true, false, _&&_}
+use mathlib.Core.List.{List, [], _∷_, map}
+use Prim.Native.Nat.{ℕ, _+_, _*_, _≤_, _<_}
 use native.Mathlib.Omega.{arith}
 use borrow.Author.Tests.{leb-true, eqb-true}
-use lib.Dec.{T, leb, eqb}
+use lib.Dec.{leb, eqb}
 use lib.Ieee.Bits.{is-true}
 use lib.ListN.{length, length-append}
 use Rattle.float.proofs.Cases.{test, both}
@@ -29,7 +29,7 @@ use Rattle.column_file.specs.Reading.{File, readFile}
 use Rattle.column_file.specs.Places.{columnsSize}
 use Rattle.column_calls.specs.Columns.{eventOf, builderOf, columnCall}
 use Rattle.column_calls.proofs.Readings.{FileAt}
-use Rattle.listing_lines.specs.Lines.{header, lineOf, columnLine, columnLines, umiLine, textOf, refusalLine}
+use Rattle.listing_lines.specs.Lines.{lineOf, columnLine, columnLines, umiLine, textOf, refusalLine}
 use Rattle.column_listing.specs.Listing.{linesOf}
 use Rattle.column_listing.specs.Places.{placesText}
 use Rattle.column_listing.proofs.Files.{two-each, columns-inside, file-size}

@@ -1,6 +1,6 @@
 -- One line for each column, the header and the line of the strings. Assumes nothing.
-use mathlib.Core.Path.{_≡_, refl, sym, _∙_, ap}
-use mathlib.Core.Bool.{Bool, true, false, _&&_, _||_}
+use mathlib.Core.Path.{_≡_, refl, _∙_, ap}
+use mathlib.Core.Bool.{Bool, true, false, _&&_}
 use mathlib.Core.List.{List, [], _∷_, _++_}
 use Prim.Native.Nat.{ℕ, zero, suc, _+_, _≤_, _<_}
 use native.Mathlib.Numerals.{add-one}
@@ -11,7 +11,7 @@ use lib.Ieee.Bits.{is-true}
 use lib.ListN.{length, getD, length-append, List·getD-append}
 use lib.Seq.{getD-append-seam}
 use Rattle.float.proofs.Cases.{test, both, clash, refuted}
-use Rattle.lent_bytes.specs.Lists.{any, every, lastOr, isEmpty}
+use Rattle.lent_bytes.specs.Lists.{any, lastOr}
 use Rattle.lent_bytes.proofs.Tests.{none-by-every}
 use Rattle.lent_text.specs.Text.{letters, newline, space, decimal, isDigit, line}
 use Rattle.lent_text.proofs.Decimal.{decimal-digits}

@@ -1,7 +1,7 @@
 -- Where IEEE 754 has no logarithm: below 0 for ln, below -1 for ln(1 + x). Assumes nothing.
 use mathlib.Core.Path.{_≡_, refl}
 use mathlib.Core.Bool.{true}
-use lib.Ieee.{Float, nan, lt, le, eq, neg, div, ofBits}
+use lib.Ieee.{Float, nan, lt, le, neg, div, ofBits}
 use Rattle.float.specs.Ops.{_⊘_, bits, nought, one}
 use Rattle.float.proofs.Cases.{and-false}
 use Rattle.float.proofs.Order.{nan-not-lt, lt-asym, lt-trans, lt-not-eq, lt-not-le}

@@ -1,10 +1,10 @@
 -- For every argument: exp is never below 0 and is NaN at NaN alone, and ln(1 + x) is not below 0 where x is not. Each follows from a last test of
 -- the definition. Assumes nothing.
 use mathlib.Core.Path.{_≡_, refl, sym, _∙_}
-use mathlib.Core.Bool.{Bool, true, false, _&&_}
+use mathlib.Core.Bool.{true, false, _&&_}
 use Prim.Native.Nat.{ℕ}
-use lib.Ieee.{Float, nan, lt, le, eq, ne, isNan, div, ofBits}
-use Rattle.float.specs.Ops.{bits, nought, infinite, if_then_else_}
+use lib.Ieee.{Float, nan, lt, le, ne, isNan, div, ofBits}
+use Rattle.float.specs.Ops.{bits, nought, infinite}
 use Rattle.float.proofs.Cases.{test, choice, both}
 use Rattle.float.proofs.Order.{ne-self, nan-alone, nan-not-lt, le-numbers, le-not-lt}
 use Rattle.elementary.specs.Exp.{from0Of, lowest, farOf, stepsOf, powerAt, rowAt, inside, termOf, raisedOf, nearOf, expOf}

@@ -1,6 +1,6 @@
 -- ln: a normal x is m·2^k with m from 1 to 2; with c from a table, near m, and r = m/c - 1, ln x = k·ln 2 + ln c + ln(1 + r). From m = 1.375 on k is one
 -- more, and ln c is that of c/2. Definitions only.
-use Prim.Native.Nat.{ℕ, _+_, _/_, _%_, _^_}
+use Prim.Native.Nat.{_+_, _/_, _%_, _^_}
 use mathlib.Core.Bool.{_&&_}
 use lib.Ieee.{Float, binary64, toBits, lt, le, eq, neg}
 use Rattle.elementary_tables.specs.declared.ln_table.LnRow.{LnRow}

@@ -5,15 +5,15 @@ use mathlib.Core.Logic.{_⊎_, inl, inr, ⊎-elim}
 use Prim.Native.Nat.{ℕ, zero, suc, _+_, _-_, _*_, _^_, _≤_, _<_}
 use native.Mathlib.Nat.{le-trans, le-of-eq, le-of-lt, lt-of-lt-of-le, lt-of-le-of-lt, mul-right-comm, mul-le-mul-right, mul-lt-mul-of-pos-right, lt-of-mul-lt-mul-right, mul-pos, zero-mul, add-comm, eq-of-mul-eq-mul-right, eq-zero-or-pos}
 use native.Mathlib.Omega.{arith}
-use lib.Dec.{T, ltb, eqb, eqb·suc-zero}
+use lib.Dec.{T, ltb, eqb}
 use lib.IntN.{ℤ}
-use lib.Ieee.{Float, nan, inf, fin, Format, prec, emax, low, binary64, unlike, up, down, odd, units, round, neg, sum, add, mul, below, level, lt, eq, le, ne, isNan, ofBits}
+use lib.Ieee.{Float, nan, inf, fin, Format, prec, emax, low, binary64, up, down, odd, units, round, neg, sum, add, below, level, lt, eq, le, ne, isNan}
 use lib.Ieee.Fits.{down-pos, round-is}
 use lib.Ieee.Positive.{first-pos}
 use lib.Ieee.Scale.{finite}
 use borrow.Author.Tests.{ltb-true, ltb-false, lt-ltb, le-ltb, eq-eqb, eqb-true}
 use Rattle.float.proofs.Cases.{test, clash, refuted, both}
-use Rattle.float.specs.Ops.{_⊕_, _⊗_, nought}
+use Rattle.float.specs.Ops.{_⊕_}
 
 -- a test that cannot have passed
 no : {A : Type 0} → false ≡ true → A

@@ -8,7 +8,7 @@ use native.Mathlib.Omega.{arith}
 use lib.Dec.{T, ltb, leb, eqb, leb→le, ltb→lt}
 use lib.IntN.{ℤ, pos, negsuc}
 use lib.Pow.{pow-add, pow-pos, pow-lt}
-use lib.Ieee.{Float, nan, inf, fin, Format, binary64, prec, emax, low, up, down, odd, units, round, neg, sum, add, sub, div, lt, eq, le, fits, isNan, ofBits, toBits}
+use lib.Ieee.{Float, nan, inf, fin, Format, binary64, prec, emax, low, up, down, odd, units, round, neg, sum, add, sub, div, lt, eq, fits, ofBits, toBits}
 use lib.Ieee.Digits.{back}
 use lib.Ieee.Fits.{down-pos, round-is, round-fits}
 use lib.Ieee.Bits.{is-true, ofBits-toBits}
@@ -20,7 +20,7 @@ use borrow.Author.Tests.{ltb-false, le-ltb, eqb-true}
 use Rattle.float.specs.Ops.{_⊕_, _⊖_, nought, infinite}
 use Rattle.float.proofs.Cases.{both}
 use Rattle.float.proofs.Finite.{round-zero}
-use Rattle.float.proofs.Order.{none-below, le-not-lt, le-numbers, not-lt-le, lt-neg, round-has, not-nan-add}
+use Rattle.float.proofs.Order.{none-below, le-not-lt, lt-neg, round-has}
 
 -- ---- a value that the format holds is rounded to itself
 -- `fits` is four tests: the last three

@@ -1,6 +1,6 @@
 -- The least gaps at which a quality formula reaches each level, found by halving, and what is promised of them. The formula is any. Definitions only.
 use mathlib.Core.Path.{_≡_}
-use mathlib.Core.Bool.{Bool, true, false, not}
+use mathlib.Core.Bool.{Bool, not}
 use mathlib.Core.Logic.{_↔_}
 use Prim.Native.Nat.{ℕ, zero, suc, _≤_}
 use lib.Dec.{T, leb}

@@ -1,6 +1,5 @@
 -- The corners of phred.rs, computed. Assumes nothing.
 use mathlib.Core.Path.{_≡_, refl}
-use Prim.Native.Nat.{ℕ, _<_}
 use lib.Dec.{T}
 use lib.Ieee.{add, sub, mul, div, neg, lt, le, eq, ne, isNan, ofBits, toBits, ofInt}
 use Rattle.float.specs.Ops.{nought}

@@ -1,21 +1,21 @@
 -- A sum of exponentials is 0 nowhere but where all of them are: `ln_sum_exp_array` is -infinity only if it is empty or all lanes are. Assumes nothing.
-use mathlib.Core.Path.{_≡_, refl, sym, ap, _∙_, subst}
-use mathlib.Core.Bool.{Bool, true, false}
+use mathlib.Core.Path.{_≡_, refl, sym, ap, _∙_}
+use mathlib.Core.Bool.{true, false}
 use mathlib.Core.List.{List, [], _∷_, _++_}
 use Prim.Native.Nat.{ℕ, zero, suc, _+_, _<_}
 use native.Mathlib.Nat.{le-of-suc-le-suc, not-suc-le-zero}
 use native.Mathlib.Numerals.{add-one}
 use lib.Dec.{T}
 use lib.ListN.{length, getD, take, drop}
-use lib.Ieee.{Float, nan, binary64, fits, lt, le, eq, ne, neg, div, ofBits, isNan}
-use lib.Ieee.Fits.{nan-fits, add-fits, sub-fits}
-use Rattle.float.specs.Ops.{_⊕_, _⊖_, bits, nought, infinite, if_then_else_}
+use lib.Ieee.{Float, nan, binary64, fits, lt, le, eq, neg, div, ofBits, isNan}
+use lib.Ieee.Fits.{add-fits, sub-fits}
+use Rattle.float.specs.Ops.{_⊕_, _⊖_, bits, nought}
 use Rattle.float.proofs.Cases.{test, clash, choice, both}
 use Rattle.float.proofs.Order.{ne-self, lt-trans, lt-le, le-numbers, not-lt-le}
 use Rattle.float.proofs.Sums.{add-not-below, add-not-minus-infinity}
 use Rattle.elementary.specs.Exp.{expOf}
 use Rattle.elementary.proofs.Signs.{exp-from-0, exp-not-below, ln-one-plus-not-below}
-use Rattle.phred.specs.Phred.{lnTwo, lnZero, log1pexpZero, log1pexpOf, lnSumExpGeneral, lnSumExp, allLnZero, startLane, sums, sumFrom, lnSumExpArray}
+use Rattle.phred.specs.Phred.{lnZero, log1pexpZero, log1pexpOf, lnSumExpGeneral, lnSumExp, allLnZero, startLane, sums, sumFrom, lnSumExpArray}
 use Rattle.phred.proofs.Start.{start-inside}
 
 -- not below 0

@@ -1,6 +1,6 @@
 -- A loop that fills a table, place by place, with what a rule says; for any rule. Assumes nothing.
 use mathlib.Core.Path.{_≡_, refl, sym, _∙_, ap}
-use mathlib.Core.List.{List, [], _∷_}
+use mathlib.Core.List.{List}
 use Prim.Native.Nat.{ℕ, zero, suc, _+_, _<_, _≤_}
 use native.Mathlib.Nat.{add-zero, zero-add, ne-of-lt, le-of-suc-le-suc, not-suc-le-zero}
 use native.Mathlib.Omega.{arith}

@@ -1,8 +1,8 @@
 -- The tables of a pair of rates as bytes, as `tables` hands them out. Definitions only.
 use Prim.Native.Nat.{ℕ, _-_, _/_, _%_, _^_}
 use mathlib.Core.List.{List, _++_}
-use lib.Dec.{ltb, leb}
-use lib.ListN.{length, getD, drop}
+use lib.Dec.{ltb}
+use lib.ListN.{getD, drop}
 use lib.Ieee.{Float, nan, binary64, toBits}
 use Rattle.float.specs.Ops.{if_then_else_}
 use Rattle.rate_tables.specs.Tables.{listed}

@@ -1,5 +1,4 @@
 -- `between`: both tests, in the definition's order. Assumes nothing.
-use mathlib.Core.Path.{refl}
 use Rattle.float.specs.Methods.{betweenOf}
 use Rattle.float.proofs.between.Statement.{statement}
 use Rattle.float.proofs.between.Tie as tie

@@ -1,7 +1,7 @@
 -- `write`: so many bytes are written, and the others are as they were. Assumes nothing.
 use Prim.Native.Nat.{ℕ, _-_, _%_, _≤_}
 use Rattle.table_bytes.specs.Tables.{byteOf, numberByte, overwritten}
-use mathlib.Core.Path.{_≡_, refl, sym, _∙_, ap}
+use mathlib.Core.Path.{_≡_, _∙_, ap}
 use native.Mathlib.Omega.{arith}
 use borrow.Author.Needs.{needs}
 use lib.ListN.{length}

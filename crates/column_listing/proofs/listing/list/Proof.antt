@@ -1,5 +1,5 @@
 -- `list`: by the outcome of the file. Assumes nothing.
-use mathlib.Core.Path.{sym, ap}
+use mathlib.Core.Path.{ap}
 use borrow.Author.Needs.{needs}
 use Rattle.column_listing.proofs.Outcomes.{replyOf, list-reply}
 use Rattle.column_listing.proofs.listing.list.Statement.{statement}

@@ -1,5 +1,5 @@
 -- `write`: a file that is refused, and one that is read. Assumes nothing.
-use mathlib.Core.Path.{sym, _∙_, ap}
+use mathlib.Core.Path.{sym, _∙_}
 use borrow.Author.Needs.{needs}
 use Rattle.column_file.specs.Reading.{readFile}
 use Rattle.column_calls.proofs.Readings.{read-refused}

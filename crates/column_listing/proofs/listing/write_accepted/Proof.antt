@@ -1,11 +1,10 @@
 -- `write_accepted`: what the caller refuses, and the text with the string that it gives. Assumes nothing.
-use mathlib.Core.Path.{_≡_, refl, sym, _∙_, ap}
-use mathlib.Core.List.{List}
-use Prim.Native.Nat.{ℕ, _≤_}
+use mathlib.Core.Path.{_≡_, refl, sym}
+use Prim.Native.Nat.{_≤_}
 use native.Mathlib.Omega.{arith}
 use borrow.Author.Needs.{needs}
 use borrow.Rule.Slice.PartAt.{part-to-end}
-use lib.ListN.{length, take, replicate}
+use lib.ListN.{take, replicate}
 use lib.Seq.{length-take-le}
 use Rattle.simple_umi.specs.Consensus.{defaultCaller, consensusOf}
 use Rattle.simple_umi.specs.Answers.{flaggedOf, bufferAfter}

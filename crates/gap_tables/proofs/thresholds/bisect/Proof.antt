@@ -1,7 +1,7 @@
 -- `bisect`: after i turns the ends are those after i halvings. Assumes nothing.
 use Rattle.gap_tables.specs.declared.thresholds.Ends.{Ends}
-use mathlib.Core.Path.{_≡_, refl, sym, _∙_, ap}
-use Prim.Native.Nat.{_+_, _-_, _≤_}
+use mathlib.Core.Path.{_≡_, refl, _∙_, ap}
+use Prim.Native.Nat.{_-_, _≤_}
 use native.Mathlib.Numerals.{add-one}
 use native.Mathlib.Omega.{arith}
 use Rattle.gap_tables.specs.Thresholds.{reaches, halved, halvings}

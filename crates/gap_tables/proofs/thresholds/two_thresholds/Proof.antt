@@ -1,5 +1,5 @@
 -- `two_thresholds`: where both are found by halving, the definition halves. Assumes nothing.
-use Prim.Native.Nat.{_+_, _≤_, _<_}
+use Prim.Native.Nat.{_+_, _<_}
 use native.Mathlib.Omega.{arith}
 use borrow.Author.Tests.{le-leb, lt-leb}
 use borrow.Author.Needs.{needs}

@@ -5,7 +5,7 @@ use native.Mathlib.Omega.{arith}
 use lib.ListN.{length, drop}
 use borrow.Author.Needs.{needs}
 use borrow.Author.Tests.{lt-ltb, le-ltb}
-use Rattle.replay.specs.Hex.{hexFrom, hexOf}
+use Rattle.replay.specs.Hex.{hexFrom}
 use Rattle.replay.proofs.Digits.{goes-on, stops, ends, more-digits, few-digits}
 use Rattle.replay.proofs.hex.number.Statement.{statement}
 use Rattle.replay.proofs.hex.number.Tie as tie

@@ -1,5 +1,4 @@
 -- `fgbio_lead`: the four lanes, one after the other. Assumes nothing.
-use mathlib.Core.Path.{_∙_}
 use borrow.Author.Needs.{needs}
 use Rattle.tie_rules.proofs.Leading.{leadOf, lead-is}
 use Rattle.tie_rules.proofs.lead.fgbio_lead.Statement.{statement}
