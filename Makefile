@@ -38,6 +38,9 @@ unexport EXPORTS_FOLDER
 help: ## list the targets
 	@sed -n 's/^\([a-z]*\):[^#]*## \(.*\)/\1\t\2/p' $(MAKEFILE_LIST) | expand -t 14
 
+# rt starts a batch of checks and waits for all of it: with four at a time fewer processors stand idle
+# while the longest one ends. Each takes about 1 GB.
+test: export RT_JOBS ?= 4
 # rt ci removes target/ and proves all from nothing, so the comparison comes after it: its library is
 # then made of what has just been proved. The line 'N passed, 0 failed' is printed again as the last:
 # where it stands there, the comparison held too.
