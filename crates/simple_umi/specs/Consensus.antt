@@ -10,7 +10,8 @@ use Rattle.base_builder.specs.declared.builder.ConsensusBaseBuilder.{ConsensusB
 use Rattle.base_builder.specs.Builder.{newAt}
 use Rattle.umi_column.specs.Calls.{columnBuilder, columnByte}
 use Rattle.simple_umi.specs.declared.caller.SimpleConsensusCaller.{SimpleConsensusCaller}
-use Rattle.simple_umi.specs.Strings.{firstOf, columnsOf, alike, isFamily, differsFrom}
+use Rattle.umi_family.specs.Rows.{differsFrom}
+use Rattle.simple_umi.specs.Strings.{firstOf, columnsOf, alike, isFamily}
 use Rattle.simple_umi.specs.Verdicts.{consensusVerdict, umisVerdict, callVerdict}
 
 -- a caller of two rates and a quality: a new builder of its rate, and no tables

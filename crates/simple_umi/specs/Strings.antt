@@ -1,11 +1,11 @@
 -- Lists of strings: their columns, and what is asked of them. Definitions only.
 use Prim.Native.Nat.{ℕ}
-use mathlib.Core.Bool.{Bool, not, _&&_}
+use mathlib.Core.Bool.{Bool, _&&_}
 use mathlib.Core.List.{List, [], _∷_, map}
-use lib.Dec.{leb, ltb, eqb}
+use lib.Dec.{ltb, eqb}
 use lib.ListN.{length}
 use Rattle.rate_tables.specs.Tables.{listed}
-use Rattle.lent_bytes.specs.Lists.{every, sameBytes, byteAt}
+use Rattle.lent_bytes.specs.Lists.{every, byteAt}
 
 -- the first string, an empty one where there is none
 abbrev pub firstOf : List (List ℕ) → List ℕ
@@ -27,11 +27,3 @@ alike strings = every (λ t. eqb (length t) (length (firstOf strings))) strings
 -- a family: two or more strings of equal length
 unfoldable pub isFamily : List (List ℕ) → Bool
 isFamily strings = ltb 1 (length strings) && alike strings
-
--- a byte of 128 or more
-abbrev pub isHigh : ℕ → Bool
-isHigh x = leb 128 x
-
--- a string that is not this text, byte by byte and with case
-abbrev pub differsFrom : List ℕ → List ℕ → Bool
-differsFrom text t = not (sameBytes t text)

@@ -1,11 +1,11 @@
 -- What a family is refused for, and what its columns give. Definitions only.
-use mathlib.Core.Bool.{false, not}
+use mathlib.Core.Bool.{false}
 use mathlib.Core.List.{List, map}
 use Prim.Native.Nat.{ℕ}
 use lib.Ieee.{Float}
 use lib.ListN.{length}
 use Rattle.float.specs.Ops.{if_then_else_}
-use Rattle.lent_bytes.specs.Lists.{any, lastOr, sameBytes, byteAt}
+use Rattle.lent_bytes.specs.Lists.{any, lastOr, byteAt}
 use Rattle.refusals.specs.declared.Refusal.the-variants.{CutOff, NotAscii}
 use Rattle.refusals.specs.declared.Verdict.{Verdict}
 use Rattle.refusals.specs.declared.Verdict.the-variants.{Refused}
@@ -18,7 +18,7 @@ use Rattle.umi_column.specs.Verdicts.{verdictOf}
 use Rattle.umi_column.specs.Calls.{addedAll, namedByte}
 use Rattle.umi_column.specs.Sums.{noSums, summedAll, byteBy}
 use Rattle.umi_family.specs.declared.calls.Called.{Called}
-use Rattle.umi_family.specs.Rows.{fitting, rowsAt, columnsAt, isHigh}
+use Rattle.umi_family.specs.Rows.{fitting, rowsAt, columnsAt, isHigh, differsFrom}
 
 -- of strings that lie in the set: a byte of 128 or more in one of them, or else the first faulty column
 unfoldable pub verdictWithin : ℕ → List ℕ → List ℕ → Verdict
@@ -59,7 +59,7 @@ unfoldable pub calledAt : AdjustedEntry → ConsensusBaseBuilder → List ℕ �
 calledAt e b s ps text =
     if fitting (length text) s ps then
     record {
-      «had_errors» = any (λ t. not (sameBytes t (textAt e b s ps text))) (rowsAt (length text) s ps);
+      «had_errors» = any (differsFrom (textAt e b s ps text)) (rowsAt (length text) s ps);
       builder = lastBy e b (columnsAt (length text) s ps);
     }
     else record { «had_errors» = false; builder = b }

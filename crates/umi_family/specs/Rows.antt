@@ -1,10 +1,10 @@
 -- Strings of one width by the places of their length bytes in a set. Definitions only.
-use mathlib.Core.Bool.{Bool, true, false, _&&_, _||_}
+use mathlib.Core.Bool.{Bool, true, false, not, _&&_, _||_}
 use mathlib.Core.List.{List, [], _∷_, map}
 use Prim.Native.Nat.{ℕ, _+_, _≤_, _<_}
 use lib.Dec.{leb, ltb, eqb}
 use lib.ListN.{length, take, drop}
-use Rattle.lent_bytes.specs.Lists.{every, byteAt}
+use Rattle.lent_bytes.specs.Lists.{every, sameBytes, byteAt}
 use Rattle.rate_tables.specs.Tables.{listed}
 use Rattle.umi_column.specs.Dna.{isDnaBase}
 
@@ -31,6 +31,10 @@ columnsAt w s ps = listed (λ k. bytesAt k s ps) 0 w
 -- a byte of 128 or more
 abbrev pub isHigh : ℕ → Bool
 isHigh x = leb 128 x
+
+-- a string that is not this text, byte by byte and with case
+abbrev pub differsFrom : List ℕ → List ℕ → Bool
+differsFrom text t = not (sameBytes t text)
 
 -- a byte that a column's first byte f lets stand: the same, or both are DNA
 abbrev pub isLike : ℕ → ℕ → Bool

@@ -16,7 +16,8 @@ fn are_apart(correct: f64, error_per_alt: f64) -> bool
     (-32.0 <= error_per_alt) & (correct <= 0.0) & (2.0 <= correct - error_per_alt)
 }
 
-// Whether the base that was observed more often than each other is the call.
+// Whether the base that was observed more often than each other is the call. False is never wrong: the
+// columns are then summed.
 pub(crate) fn counts_decide(rule: TieRule, correct: f64, error_per_alt: f64) -> bool
     ensures { λ r. ⌜ (r ≡ true → (rule ≡ FgbioCompat) × (apart correct «error_per_alt» ≡ true)) ⌝ }
 {
@@ -65,7 +66,7 @@ fn above(x: u8, p: u8, q: u8, r: u8) -> bool
     (p < x) & (q < x) & (r < x)
 }
 
-// The lane whose count is above each other's, or NO_LANE.
+// The lane whose count is above each other's, or NO_LANE, which is never wrong: the column is then summed.
 pub(crate) fn leader(a: u8, c: u8, g: u8, t: u8) -> usize
     ensures { λ r. ⌜ (r < 4 → Above (a ∷ c ∷ g ∷ t ∷ []) r) ⌝ }
 {

@@ -1,11 +1,10 @@
 // The strings one by one.
 ghost use mathlib.Core.Path.{_≡_};
-ghost use mathlib.Core.Bool.{not};
 ghost use Prim.Native.Nat.{_+_};
 ghost use lib.Dec.{leb};
 ghost use lib.ListN.{length, take, drop};
-ghost use Rattle.lent_bytes.specs.Lists.{any, every, sameBytes, byteAt};
-ghost use Rattle.umi_family.specs.Rows.{fitting, Fits, rowsAt, isHigh, likeRow};
+ghost use Rattle.lent_bytes.specs.Lists.{any, every, byteAt};
+ghost use Rattle.umi_family.specs.Rows.{fitting, Fits, rowsAt, isHigh, differsFrom, likeRow};
 use lent_bytes::same_bytes;
 use umi_column::is_dna_base;
 
@@ -112,7 +111,7 @@ pub(crate) fn rows_like(set: &[u8], places: &[usize], width: usize) -> bool
 // Whether a string differs from a text of its width.
 pub(crate) fn any_differs(set: &[u8], places: &[usize], text: &[u8]) -> bool
     requires { ⌜ Fits (length (now text)) (now set) (now places) ⌝ }
-    ensures { λ r. ⌜ r ≡ any (λ t. not (sameBytes t (now (text .entry)))) (rowsAt (length (now (text .entry))) (now (set .entry)) (now (places .entry))) ⌝ }
+    ensures { λ r. ⌜ r ≡ any (differsFrom (now (text .entry))) (rowsAt (length (now (text .entry))) (now (set .entry)) (now (places .entry))) ⌝ }
 {
     let mut k = 0;
     while k < places.len() {
