@@ -50,7 +50,7 @@ exactOf y a =
     (a .r ⊕ n) ⊘ fmaSmallProductOf y n six ⊗ a .half
 
 -- for an x up to ½·ln 2 either way: with the exact e and one rounding for e·x - x²/2. That lies between the sums with the two ends of e and with x moved
--- by a little, and no operation changes the order: so where these two give the same, that is it.
+-- by a little, and no operation changes the order: so where these two give the same, that is meant to be it (argued, not proved; the result is what is said here).
 unfoldable pub nearZeroOf : Float → Correction → Float
 nearZeroOf x a =
     let y = x ⊖ (a .low ⊗ (x ⊗ up) ⊖ a .half) in

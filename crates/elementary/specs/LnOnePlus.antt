@@ -58,7 +58,7 @@ sumOf t a low =
     else t .k ⊗ bits 0x3fe6_2e42_fee0_0000 ⊖ (a .half ⊖ (restOf a low ⊕ (t .k ⊗ bits 0x3dea_39ef_3579_3c76 ⊕ t .c)) ⊖ t .f)
 
 -- the same with the first three terms added up in one rounding. Such a sum lies between those with the two numbers beside the first coefficient, and no
--- operation of sumOf changes the order: so where these two give the same, that is it.
+-- operation of sumOf changes the order: so where these two give the same, that is meant to be it (argued, not proved; the result is what is said here).
 unfoldable pub joinedOf : Parts → Float
 joinedOf t =
     let a = expansionOf (t .f) in

@@ -89,8 +89,8 @@ fn series(r: f64, tail: f64) -> f64
     (r2 * r2) * (r * C5 + C4) + (r2 * (r * C3 + C2) + (tail + r))
 }
 
-// exp x as h * (1 + t) * 2^(k - 1100), for the h of the pattern head. The last test never gives 0:
-// it shows at once that no result is below 0 and none is NaN.
+// exp x as h * (1 + t) * 2^(k - 1100), for the h of the pattern head. The last test shows at once
+// that no result is below 0 and none is NaN. No argument is known at which it gives 0; that is not proved.
 fn far(x: f64, head: u64, t: f64, k: u64) -> f64
     requires { ⌜ head < 4611686018427387904 ⌝ }
     ensures { λ r. ⌜ r ≡ farOf x head t k ⌝ }
