@@ -1,0 +1,46 @@
+"""The library from Python, by ctypes: `python3 consensus.py FILE` prints each column's call, and an example with UMI strings.
+
+CONSENSUS_LIBRARY names the shared library; without it the linker's search path is asked."""
+
+import ctypes
+import os
+import struct
+import sys
+
+library = ctypes.CDLL(os.environ.get("CONSENSUS_LIBRARY", "libconsensus.so"))
+for name in ("consensus_records", "consensus_umi"):
+    getattr(library, name).restype = ctypes.c_uint64
+
+
+class Refused(ValueError):
+    """A file or a string set is refused by a numbered condition."""
+
+
+def given(reply):
+    if reply < 256:
+        raise Refused(f"refused by condition {reply}")
+    return reply - 256
+
+
+def records(file):
+    """Of each column: base, quality, depth, counts of A, C, G and T, ignored bytes."""
+    out = ctypes.create_string_buffer(28 * 32768)
+    length = given(library.consensus_records(file, ctypes.c_size_t(len(file)), out, ctypes.c_size_t(len(out))))
+    return [(chr(base), quality, *counts) for base, quality, *counts in struct.iter_unpack("<BBxx6I", out.raw[:length])]
+
+
+def umi(strings):
+    """The consensus of UMI strings, and whether one of them differs from it."""
+    data = bytes([len(strings)]) + b"".join(bytes([len(s)]) + s for s in strings)
+    out = ctypes.create_string_buffer(255)
+    code = given(
+        library.consensus_umi(ctypes.c_uint8(1), data, ctypes.c_size_t(len(data)), out, ctypes.c_size_t(len(out)))
+    )
+    return out.raw[: code >> 2], bool(code & 1)
+
+
+if __name__ == "__main__":
+    with open(sys.argv[1], "rb") as file:
+        for number, record in enumerate(records(file.read()), 1):
+            print(number, *record)
+    print("umi", *umi([b"ACGT", b"ACGT", b"ACGA"]))

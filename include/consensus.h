@@ -1,0 +1,163 @@
+/* consensus.h: the functions of libconsensus, for C99 and C++.
+ *
+ * Every function is proved to meet the contract that stands above it (docs/PROOFS.md, 'What C and Rust link'). It returns for
+ * every argument, reads the bytes of its inputs alone, writes into OUT alone, keeps nothing between calls and takes no lock, so
+ * any number of threads may call it. What is asked of the caller, and not checked:
+ *
+ *   - a pointer leads to LENGTH elements at least; where LENGTH is 0 it may be any pointer but NULL;
+ *   - OUT overlaps no input, and nobody else writes to either while the call runs;
+ *   - the floating point unit rounds to nearest and keeps subnormal numbers, as it does when a program starts;
+ *   - 256 KiB of stack are free;
+ *   - x86-64 with the System V calling convention (Linux).
+ *
+ * What does not fit OUT is not written at all. Bytes of OUT behind an answer stay as they were. Numbers in answers have their
+ * low byte first. */
+#ifndef CONSENSUS_H
+#define CONSENSUS_H
+
+#include <stddef.h>
+#include <stdint.h>
+
+#ifdef __cplusplus
+extern "C" {
+#endif
+
+/* The conditions by which a file or a string set is refused (docs/FORMAT.md, 'What is refused'). */
+enum consensus_refusal {
+    CONSENSUS_TOO_LONG = 1,          /* more than 65,536 bytes */
+    CONSENSUS_CUT_OFF = 2,           /* truncated, or bytes left over */
+    CONSENSUS_BAD_SETTINGS = 3,      /* not three settings, or a tie rule above 1 */
+    CONSENSUS_ABSENT_QUALITY = 4,    /* a quality of 255 */
+    CONSENSUS_NO_STRINGS = 5,
+    CONSENSUS_LENGTHS_DIFFER = 6,
+    CONSENSUS_NOT_ASCII = 7,         /* a byte of 128 or more */
+    CONSENSUS_UNLIKE_FIRST = 8,      /* a non-DNA byte unlike the first string's */
+    CONSENSUS_MIXED = 9,             /* DNA and non-DNA in one column */
+    CONSENSUS_BUFFER_TOO_SHORT = 10,
+    CONSENSUS_FULL_BUILDER = 11      /* 4,294,967,295 bases are counted */
+};
+
+/* The tie rules, as files and scripts write them. */
+enum consensus_tie_rule { CONSENSUS_FGBIO_COMPAT = 0, CONSENSUS_ULP_RELATIVE = 1 };
+
+/* A reply that is a refusal's number below 256, and else 256 + a length. */
+#define CONSENSUS_IS_REFUSED(reply) ((reply) < 256)
+#define CONSENSUS_LENGTH(reply) ((reply) - 256)
+
+/* ---- column files ------------------------------------------------------------------------------------------------------ */
+
+/* Room that holds every listing. */
+#define CONSENSUS_LISTING_ROOM 2400000
+
+/* The listing of a column file (docs/FORMAT.md) as text in OUT. Reply: below 256 the refusal, 10 where OUT is too short; else
+ * 256 + the text's length. The text has no 0 at its end. */
+uint64_t consensus_listing(const uint8_t *file, size_t file_length, uint8_t *out, size_t out_length);
+
+/* The same as the program `listing` prints it: a refused file gives the text "refused N\n". Reply: the text's length, or 0 where
+ * OUT is too short. */
+uint64_t consensus_list(const uint8_t *file, size_t file_length, uint8_t *out, size_t out_length);
+
+/* ---- UMI strings ------------------------------------------------------------------------------------------------------- */
+
+/* Which function of simple_umi.rs. */
+enum consensus_umi_function {
+    CONSENSUS_CALL_CONSENSUS = 0,
+    CONSENSUS_CONSENSUS = 1,
+    CONSENSUS_UMIS = 2,
+    CONSENSUS_DUPLEX = 3
+};
+
+/* Rooms that always suffice. */
+#define CONSENSUS_UMI_ROOM 255
+#define CONSENSUS_UMI_CALLER_ROOM (255 + 80)
+
+/* A reply of 256 or more, taken apart: the string's length; whether a string differs from it (of CONSENSUS_DUPLEX: /A's flag); /B's
+ * flag. */
+#define CONSENSUS_UMI_LENGTH(reply) (((reply) - 256) >> 2)
+#define CONSENSUS_UMI_HAD_ERRORS(reply) ((int)((reply) & 1))
+#define CONSENSUS_UMI_HAD_ERRORS_B(reply) ((int)((reply) >> 1 & 1))
+
+/* The consensus of a string set (a count byte; each string after its length byte) at the default rates 90 and 90 and quality
+ * 20. Reply: below 256 the refusal, 10 where OUT is too short, 0 where WHICH is no function; else the string stands in OUT, and
+ * the macros above take the reply apart. */
+uint64_t consensus_umi(uint8_t which, const uint8_t *set, size_t set_length, uint8_t *out, size_t out_length);
+
+/* The same by a new caller of these rates and this quality; WHICH is 0, 1 or 3. Behind the string OUT gets the 80 bytes of the
+ * caller's builder afterwards, as in a report (below) its first 80. */
+uint64_t consensus_umi_caller(uint8_t pre, uint8_t post, uint8_t quality, uint8_t which, const uint8_t *set, size_t set_length,
+                              uint8_t *out, size_t out_length);
+
+/* Several sets by one caller. SETS holds them one after another, each after its length in four bytes. For each set OUT gets the
+ * reply of consensus_umi_caller in eight bytes, the string (none where refused) and the builder's 80 bytes. Reply: the number
+ * of bytes; 0, and nothing written, where a length reaches past the end, OUT is too short or WHICH is not 0, 1 or 3. */
+uint64_t consensus_umi_sets(uint8_t pre, uint8_t post, uint8_t quality, uint8_t which, const uint8_t *sets, size_t sets_length,
+                            uint8_t *out, size_t out_length);
+
+/* ---- levels, logarithms and the elementary functions (phred.rs) -------------------------------------------------------- */
+
+double consensus_phred_to_ln_error_prob(uint8_t q);
+double consensus_phred_to_ln_correct_prob(uint8_t q);
+uint8_t consensus_ln_prob_to_phred(double p);
+double consensus_log1pexp(double x);
+double consensus_ln_one_minus_exp(double x);
+double consensus_ln_a_minus_b(double a, double b); /* NaN where b is the larger */
+double consensus_ln_error_prob_two_trials(double p, double q);
+double consensus_ln_sum_exp(double a, double b);
+double consensus_ln_sum_exp_array(const double *values, size_t count);
+double consensus_ln_normalize(double value, double norm);
+double consensus_ln_not(double x);
+
+double consensus_exp(double x);
+double consensus_ln(double x);
+double consensus_ln_1p(double x);
+double consensus_exp_m1(double x);
+
+/* ---- builders (base_builder.rs) ---------------------------------------------------------------------------------------- */
+
+/* A script is a list of events of three bytes: 0 base quality: add; 1 _ _: reset; 2 rule _: set the tie rule; 3 _ _: report.
+ *
+ * A report has 91 bytes: four likelihoods and four compensations (bit patterns of 8 bytes, every NaN as 0x7ff8000000000000), four
+ * counts of 4 bytes; the unanimous shortcut (1 or 0 whether it replies, base, quality), the multibase shortcut (the same),
+ * call_full (base, quality), call (base, quality); how many events were refused so far, at most 255. */
+#define CONSENSUS_REPORT 91
+#define CONSENSUS_STATE 80
+
+/* The reports that a script asks for, on a new builder at these rates, under this rule. Reply: the number of bytes; 0, and
+ * nothing written, where OUT is too short, the rule is above 1 or the script is none. */
+uint64_t consensus_history(uint8_t pre, uint8_t post, uint8_t rule, const uint8_t *script, size_t script_length, uint8_t *out,
+                           size_t out_length);
+
+/* The same answers by the functions that take the builder and its tables by value, and by those that borrow the builder. */
+uint64_t consensus_history_by_value(uint8_t pre, uint8_t post, uint8_t rule, const uint8_t *script, size_t script_length,
+                                    uint8_t *out, size_t out_length);
+uint64_t consensus_history_lent(uint8_t pre, uint8_t post, uint8_t rule, const uint8_t *script, size_t script_length,
+                                uint8_t *out, size_t out_length);
+
+/* The same from a builder of 80 given bytes: the first 80 of a report. */
+uint64_t consensus_builder(uint8_t pre, uint8_t post, uint8_t rule, const uint8_t *state, size_t state_length,
+                           const uint8_t *script, size_t script_length, uint8_t *out, size_t out_length);
+
+/* Of a builder of 80 given bytes: contributions, observations_for_base of the bytes 0 to 255, the counts of A, C, G and T; 4 bytes
+ * each. Reply: 1,044, or 0, and nothing written, where the state is not 80 bytes or OUT is too short. */
+#define CONSENSUS_OBSERVATIONS_ROOM 1044
+uint64_t consensus_observations(const uint8_t *state, size_t state_length, uint8_t *out, size_t out_length);
+
+/* The tables of two rates: correct, error_per_alt, thresholds, cerr_min, each as 94 bit patterns of 8 bytes, then cap in 8 bytes.
+ * Reply: 3,016, or 0 where OUT is too short. */
+#define CONSENSUS_TABLES_ROOM 3016
+uint64_t consensus_tables(uint8_t pre, uint8_t post, uint8_t *out, size_t out_length);
+
+/* ---- for timing -------------------------------------------------------------------------------------------------------- */
+
+/* Calls every column of a file TIMES times with tables built once. Reply: the sum of all bases and qualities, 0 for a refused
+ * file. */
+uint64_t consensus_calls(const uint8_t *file, size_t file_length, uint32_t times);
+
+/* Runs a script TIMES times on a new builder each. Reply: the sum of all reported bases and qualities. */
+uint64_t consensus_history_times(uint8_t pre, uint8_t post, uint8_t rule, const uint8_t *script, size_t script_length,
+                                 uint32_t times);
+
+#ifdef __cplusplus
+}
+#endif
+#endif
