@@ -26,7 +26,10 @@ use Rattle.umi_family.specs.Family.{verdictWithin, verdictAt, builderBy, bytesB
 use Rattle.umi_family.proofs.RowLoops.{every-at, fit-so}
 use Rattle.string_set.specs.declared.Reading.{Reading}
 use Rattle.string_set.specs.declared.Reading.the-variants.{Refused, Strings}
-use Rattle.string_set.specs.Places.{readingOf, stringAt, Placed}
+use Rattle.string_set.specs.StringSet.{readSet}
+use Rattle.string_set.specs.Places.{readingOf}
+use Rattle.string_set.proofs.Strings.{stringAt}
+use Rattle.string_set.proofs.Placed.{Placed, Ensured, placed}
 use Rattle.simple_umi.specs.declared.caller.SimpleConsensusCaller.{SimpleConsensusCaller}
 use Rattle.simple_umi.specs.Strings.{firstOf, columnsOf, alike, isFamily}
 use Rattle.simple_umi.specs.Verdicts.{firstRefusal, familyVerdict, consensusVerdict, umisVerdict, callVerdict}
@@ -266,9 +269,12 @@ module _ (s ps : List ℕ) where
       λ k i. rw (getD-take n ps k 0 (omega arith)) (h .2 k (omega arith)) in
       (ap accepted (sym (sym (map-whole (take n ps)) ∙ h .0)), omega (arith, sym (length-take n ps) ∙ size), (omega (arith, h .1), λ k i. (whole k i, omega arith)))
 
-  module _ (t : Result (List (List ℕ))) (g : Reading) (e : g ≡ readingOf t) (p : Placed s t ps) where
-    pub read-refused : (r : Refusal) → g ≡ Refused r → t ≡ refused r
-    read-refused r h = subst (Read s ps t) (sym e ∙ h) (set-read t p)
+  module _ (before : List ℕ) (g : Reading) (h : Ensured s before ps g) where
+    read-said : (q : Reading) → g ≡ q → Read s ps (readSet s) q
+    read-said q e = subst (Read s ps (readSet s)) (sym (h .0) ∙ e) (set-read (readSet s) (placed s before ps g h))
 
-    pub read-strings : (n : ℕ) → g ≡ Strings n → (t ≡ accepted (stringsAt 0 s (take n ps))) × (n ≤ length ps) × Trimmed 0 s (take n ps)
-    read-strings n h = subst (Read s ps t) (sym e ∙ h) (set-read t p)
+    pub read-refused : (r : Refusal) → g ≡ Refused r → readSet s ≡ refused r
+    read-refused r e = read-said (Refused r) e
+
+    pub read-strings : (n : ℕ) → g ≡ Strings n → (readSet s ≡ accepted (stringsAt 0 s (take n ps))) × (n ≤ length ps) × Trimmed 0 s (take n ps)
+    read-strings n e = read-said (Strings n) e

@@ -1,10 +1,10 @@
 // A string set in its file form: a count byte, then each string after its length byte.
 ghost use mathlib.Core.Path.{_≡_};
-ghost use Prim.Native.Nat.{_≤_, _<_};
-ghost use lib.ListN.{length};
+ghost use Prim.Native.Nat.{_≤_};
+ghost use lib.ListN.{length, replicate};
 ghost use Rattle.refusals.specs.Refusals.{numberIn};
 ghost use Rattle.string_set.specs.StringSet.{readSet};
-ghost use Rattle.string_set.specs.Places.{readingOf, readingNumber, Placed, walked, afterString};
+ghost use Rattle.string_set.specs.Places.{readingOf, readingNumber, readingCount, placesAfter};
 use lent_bytes::wide;
 use refusals::Refusal;
 
@@ -16,50 +16,34 @@ pub enum Reading {
 
 pub struct StringSet {
     pub reading: Reading,
-    // Where each string's length byte is; its bytes follow. From the count on, and in a refused set, the
-    // entries mean nothing.
+    // Where each string's length byte is; its bytes follow. From the count on, and in a refused set, they
+    // are 0.
     pub places: [usize; 255],
 }
 
-// The place after a string.
-enum Next {
-    At(usize),
-    Past,
-}
-
-// The place after the string whose length byte is at this one, if the bytes reach so far.
-fn after_string(set: &[u8], at: usize) -> Next
-    requires { ⌜ at ≤ length (now set) ⌝ }
-    ensures { λ r. ⌜ r ≡ afterString (now (set .entry)) at ⌝ }
+// What is said of a set. Nothing is written yet, as a refusal leaves what is lent.
+fn judge(set: &[u8]) -> Reading
+    ensures reading { λ r. ⌜ r ≡ readingOf (readSet (now (set .entry))) ⌝ }
+    ensures few { λ r. ⌜ readingCount r ≤ 255 ⌝ }
 {
-    if set.len() <= at {
-        return Next::Past;
+    if 65536 < set.len() {
+        return Reading::Refused(Refusal::FileTooLong);
     }
-    let n = wide(set[at]);
-    if set.len() - at - 1 < n {
-        return Next::Past;
+    if set.len() == 0 {
+        return Reading::Refused(Refusal::CutOff);
     }
-    Next::At(at + 1 + n)
-}
-
-// The strings after the count byte, n of them.
-fn walk(set: &[u8], n: usize, places: &mut [usize; 255]) -> Reading
-    requires { ⌜ (1 ≤ length (now set)) × (n < 256) ⌝ }
-    ensures reading { λ r. ⌜ r ≡ readingOf (walked n (now (set .entry))) ⌝ }
-    ensures placed { λ _. ⌜ Placed (now (set .entry)) (walked n (now (set .entry))) (now (places .exit)) ⌝ }
-{
-    // What lies behind a reference has no length to a proof until it is stored whole.
-    *places = [0; 255];
+    let n = wide(set[0]);
     let mut at = 1;
     let mut k = 0;
     while k < n {
-        match after_string(set, at) {
-            Next::Past => return Reading::Refused(Refusal::CutOff),
-            Next::At(end) => {
-                places[k] = at;
-                at = end;
-            }
+        if set.len() <= at {
+            return Reading::Refused(Refusal::CutOff);
         }
+        let end = at + 1 + wide(set[at]);
+        if set.len() < end {
+            return Reading::Refused(Refusal::CutOff);
+        }
+        at = end;
         k += 1;
     }
     if at < set.len() {
@@ -68,26 +52,42 @@ fn walk(set: &[u8], n: usize, places: &mut [usize; 255]) -> Reading
     Reading::Strings(n)
 }
 
-// Reads a lone set: how many strings there are, and into lent places where each is.
+// Puts where each of a set's n strings is. Lent as a slice, whose length a proof knows: that of an array
+// behind a reference it does not know until it is stored whole.
+fn place(set: &[u8], n: usize, places: &mut [usize])
+    requires { ⌜ (Reading.Strings n ≡ readingOf (readSet (now set))) × (n ≤ length (now places)) ⌝ }
+    ensures { λ _. ⌜ now (places .exit) ≡ placesAfter (readSet (now (set .entry))) (now (places .entry)) ⌝ }
+{
+    let mut at = 1;
+    let mut k = 0;
+    while k < n {
+        places[k] = at;
+        at = at + 1 + wide(set[at]);
+        k += 1;
+    }
+}
+
+// Reads a lone set: how many strings there are, and into lent places where each is. What lies beyond
+// these stays, and so do all of them where the set is refused.
 pub fn read_places(set: &[u8], places: &mut [usize; 255]) -> Reading
     ensures reading { λ r. ⌜ r ≡ readingOf (readSet (now (set .entry))) ⌝ }
-    ensures placed { λ _. ⌜ Placed (now (set .entry)) (readSet (now (set .entry))) (now (places .exit)) ⌝ }
+    ensures lent { λ _. ⌜ now (places .exit) ≡ placesAfter (readSet (now (set .entry))) (now (places .entry)) ⌝ }
     ensures number { λ r. ⌜ readingNumber r ≡ numberIn (readSet (now (set .entry))) ⌝ }
+    ensures few { λ r. ⌜ readingCount r ≤ 255 ⌝ }
 {
-    if 65536 < set.len() {
-        return Reading::Refused(Refusal::FileTooLong);
+    let reading = judge(set);
+    if let Reading::Strings(n) = reading {
+        place(set, n, places);
     }
-    if set.len() == 0 {
-        return Reading::Refused(Refusal::CutOff);
-    }
-    walk(set, wide(set[0]), places)
+    reading
 }
 
 // The same with the places in its answer.
 pub fn read(set: &[u8]) -> StringSet
     ensures reading { λ r. ⌜ r .reading ≡ readingOf (readSet (now (set .entry))) ⌝ }
-    ensures places { λ r. ⌜ Placed (now (set .entry)) (readSet (now (set .entry))) (r .places) ⌝ }
+    ensures places { λ r. ⌜ r .places ≡ placesAfter (readSet (now (set .entry))) (replicate 255 0) ⌝ }
     ensures number { λ r. ⌜ readingNumber (r .reading) ≡ numberIn (readSet (now (set .entry))) ⌝ }
+    ensures few { λ r. ⌜ readingCount (r .reading) ≤ 255 ⌝ }
 {
     let mut places = [0; 255];
     let reading = read_places(set, &mut places);

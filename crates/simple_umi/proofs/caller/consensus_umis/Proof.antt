@@ -5,7 +5,7 @@ use Prim.Native.Nat.{ℕ, _≤_}
 use native.Mathlib.Omega.{arith}
 use borrow.Author.Needs.{needs}
 use lib.Seq.{length-take-le}
-use lib.ListN.{length, take}
+use lib.ListN.{length, take, replicate}
 use Rattle.refusals.specs.Result.{accepted}
 use Rattle.string_set.specs.StringSet.{readSet}
 use Rattle.simple_umi.specs.Places.{Trimmed, stringsAt}
@@ -29,7 +29,7 @@ strings : (c : tie.After-n)
     → (readSet (setOf c) ≡ accepted (stringsAt 0 (setOf c) (take (countOf c) (placesOf c)))) × (countOf c ≤ length (placesOf c)) × Trimmed 0 (setOf c) (take (countOf c) (placesOf c))
 strings c =
     let r = c .before .before .read-places in
-    read-strings (setOf c) (placesOf c) (readSet (setOf c)) (r .result) (r .ensures .0) (r .ensures .1 .0) (countOf c) (c .n .given .1)
+    read-strings (setOf c) (placesOf c) (replicate 255 0) (r .result) (r .ensures) (countOf c) (c .n .given .1)
 
 read-places-requires : tie.Need-read-places-requires
 read-places-requires c κs = search needs
@@ -56,7 +56,7 @@ returns : tie.Need-returns
 returns c =
     let s = c .before .before .before .before .before .before .before .args in
     let r = c .before .before .before .read-places in
-    let t = read-refused (s .set .now) (r .last .1 .0) (readSet (s .set .now)) (r .result) (r .ensures .0) (r .ensures .1 .0) _ (c .before .r .given .1) in
+    let t = read-refused (s .set .now) (r .last .1 .0) (replicate 255 0) (r .result) (r .ensures) _ (c .before .r .given .1) in
     let e = sym (umis-in-refused (s .set .now) (s .out .now) _ t) in
     (ap answerOf e, (ap (bufferAfter (s .out .now)) e, (omega arith, numbered _ (consensusUmisIn (s .set .now) (s .out .now)) (ap answerOf e))))
 

@@ -5,7 +5,7 @@ use Prim.Native.Nat.{ℕ, _≤_, _<_}
 use native.Mathlib.Omega.{arith}
 use borrow.Author.Needs.{needs}
 use lib.Seq.{length-take-le}
-use lib.ListN.{length, take}
+use lib.ListN.{length, take, replicate}
 use Rattle.refusals.specs.Result.{accepted}
 use Rattle.string_set.specs.StringSet.{readSet}
 use Rattle.simple_umi.specs.Places.{Trimmed, stringsAt}
@@ -29,7 +29,7 @@ strings : (c : tie.After-n)
     → (readSet (setOf c) ≡ accepted (stringsAt 0 (setOf c) (take (countOf c) (placesOf c)))) × (countOf c ≤ length (placesOf c)) × Trimmed 0 (setOf c) (take (countOf c) (placesOf c))
 strings c =
     let r = c .before .before .read-places in
-    read-strings (setOf c) (placesOf c) (readSet (setOf c)) (r .result) (r .ensures .0) (r .ensures .1 .0) (countOf c) (c .n .given .1)
+    read-strings (setOf c) (placesOf c) (replicate 255 0) (r .result) (r .ensures) (countOf c) (c .n .given .1)
 
 -- as many as the count says
 count : (c : tie.After-n) → length (stringsAt 0 (setOf c) (take (countOf c) (placesOf c))) ≡ countOf c
@@ -75,7 +75,7 @@ returns-2 c =
     let s = c .before .before .before .before .before .before .before .before .args in
     let r = c .before .before .before .before .read-places in
     let x = c .refused .result in
-    let e = read-refused (s .set .now) (r .last .1 .0) (readSet (s .set .now)) (r .result) (r .ensures .0) (r .ensures .1 .0) _ (c .before .before .r .given .1) in
+    let e = read-refused (s .set .now) (r .last .1 .0) (replicate 255 0) (r .result) (r .ensures) _ (c .before .before .r .given .1) in
     ended-also
     (ended-refused answerOf (s .self) (s .out .now) (x .answer) (x .caller) _ _
     (call-in-refused (s .set .now) (s .out .now) (s .self) _ e) (c .refused .ensures .1) (c .refused .ensures .0))

@@ -4,7 +4,7 @@ use mathlib.Core.Path.{_≡_, sym}
 use Prim.Native.Nat.{ℕ, _≤_}
 use borrow.Author.Needs.{needs}
 use lib.Seq.{length-take-le}
-use lib.ListN.{length, take}
+use lib.ListN.{length, take, replicate}
 use Rattle.refusals.specs.Result.{accepted}
 use Rattle.string_set.specs.StringSet.{readSet}
 use Rattle.refusals.specs.Result.{andThen}
@@ -31,7 +31,7 @@ strings : (c : tie.After-n)
     → (readSet (setOf c) ≡ accepted (stringsAt 0 (setOf c) (take (countOf c) (placesOf c)))) × (countOf c ≤ length (placesOf c)) × Trimmed 0 (setOf c) (take (countOf c) (placesOf c))
 strings c =
     let r = c .before .before .read-places in
-    read-strings (setOf c) (placesOf c) (readSet (setOf c)) (r .result) (r .ensures .0) (r .ensures .1 .0) (countOf c) (c .n .given .1)
+    read-strings (setOf c) (placesOf c) (replicate 255 0) (r .result) (r .ensures) (countOf c) (c .n .given .1)
 
 -- the group is that of the set
 set-group : (c : tie.After-consensus-group)
@@ -88,7 +88,7 @@ returns c =
     let s = c .before .before .before .before .before .before .before .before .before .args in
     let r = c .before .before .before .before .read-places in
     let x = c .flagged-refused .result in
-    let e = read-refused (s .set .now) (r .last .1 .0) (readSet (s .set .now)) (r .result) (r .ensures .0) (r .ensures .1 .0) _ (c .before .before .r .given .1) in
+    let e = read-refused (s .set .now) (r .last .1 .0) (replicate 255 0) (r .result) (r .ensures) _ (c .before .before .r .given .1) in
     ended-fits
     (ended-also
     (ended-refused flaggedOf (s .self .caller) (s .out .now) (x .answer) (x .caller .caller) _ _ (consensus-in-refused (s .set .now) (s .out .now) (s .self .caller) _ e)

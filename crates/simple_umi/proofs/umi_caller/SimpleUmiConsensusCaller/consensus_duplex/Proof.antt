@@ -4,7 +4,7 @@ use mathlib.Core.Path.{_≡_, refl, sym}
 use Prim.Native.Nat.{ℕ, _≤_}
 use borrow.Author.Needs.{needs}
 use lib.Seq.{length-take-le}
-use lib.ListN.{length, take}
+use lib.ListN.{length, take, replicate}
 use Rattle.refusals.specs.Result.{accepted}
 use Rattle.string_set.specs.StringSet.{readSet}
 use Rattle.simple_umi.specs.declared.answers.DuplexAnswer.the-variants.{Given}
@@ -30,7 +30,7 @@ strings : (c : tie.After-n)
     → (readSet (setOf c) ≡ accepted (stringsAt 0 (setOf c) (take (countOf c) (placesOf c)))) × (countOf c ≤ length (placesOf c)) × Trimmed 0 (setOf c) (take (countOf c) (placesOf c))
 strings c =
     let r = c .before .before .read-places in
-    read-strings (setOf c) (placesOf c) (readSet (setOf c)) (r .result) (r .ensures .0) (r .ensures .1 .0) (countOf c) (c .n .given .1)
+    read-strings (setOf c) (placesOf c) (replicate 255 0) (r .result) (r .ensures) (countOf c) (c .n .given .1)
 
 -- the pair is that of the set
 set-pair : (c : tie.After-duplex-group)
@@ -78,7 +78,7 @@ returns c =
     let s = c .before .before .before .before .before .before .before .before .before .args in
     let r = c .before .before .before .before .read-places in
     let x = c .duplex-refused .result in
-    let e = read-refused (s .set .now) (r .last .1 .0) (readSet (s .set .now)) (r .result) (r .ensures .0) (r .ensures .1 .0) _ (c .before .before .r .given .1) in
+    let e = read-refused (s .set .now) (r .last .1 .0) (replicate 255 0) (r .result) (r .ensures) _ (c .before .before .r .given .1) in
     ended-also (duplex-unread (s .self .caller) (s .set .now) (s .out .now) (x .answer) (x .caller .caller) _ e (c .duplex-refused .ensures .1) (c .duplex-refused .ensures .0))
     (duplex-refused-short (x .answer) _ (c .duplex-refused .ensures .1)) (duplex-numbered (x .answer) (duplexIn (s .self .caller) (s .set .now) (s .out .now)))
 
