@@ -140,14 +140,11 @@ module _ (f : File) (u : Found) where
   unfolding linesOf
   last-there = rw (add-one (length (f .columns)), ← lines-count 1 (f .settings) (f .columns)) (getD-append-seam columns umi [] [])
 
-  all-lines : length (linesOf f u) ≡ length (f .columns) + 2
-  unfolding linesOf
-  all-lines = omega (arith, lines-count 1 (f .settings) (f .columns), length-append columns (umi ∷ []))
-
   pub one-line-each : OneLineEach f u
+  unfolding linesOf
   one-line-each = record {
-    lines = all-lines;
-    one-line = line-there;
+    lines = omega (arith, lines-count 1 (f .settings) (f .columns), length-append columns (umi ∷ []));
+    one-line = λ k h. line-there k (omega arith);
     ends = rw last-there (umi-ends (u .text) (u .hadErrors));
     last-line = λ h. rw last-there (umi-line (u .text) (u .hadErrors) h);
   }

@@ -1,11 +1,12 @@
--- 2,400,000 bytes hold the listing of every file, and of every list of numbers whatever. Assumes nothing.
+-- No listing is empty, and `longest` bytes hold it, that of a file and of any list of numbers. Assumes nothing.
 use mathlib.Core.Path.{_≡_, refl, sym, _∙_, ap, subst}
 use mathlib.Core.List.{List, [], _∷_}
-use Prim.Native.Nat.{ℕ, zero, suc, _+_, _≤_}
+use Prim.Native.Nat.{ℕ, zero, suc, _+_, _≤_, _<_}
 use native.Mathlib.Omega.{arith}
 use lib.Dec.{leb, ltb}
 use lib.ListN.{length, take, drop, length-take, length-drop}
 use Rattle.float.proofs.Cases.{choice}
+use Rattle.refusals.specs.declared.Refusal.{Refusal}
 use Rattle.refusals.specs.declared.Verdict.{Verdict}
 use Rattle.refusals.specs.declared.Verdict.the-variants.{Sound, Refused}
 use Rattle.refusals.specs.Result.{Result, refused, accepted, andThen, judged}
@@ -18,10 +19,11 @@ use Rattle.simple_umi.specs.Consensus.{Found, defaultCaller, found, consensusOf
 use Rattle.simple_umi_laws.proofs.AnswerLaws.{answered, no-refusal}
 use Rattle.column_file.specs.Reading.{File, readFile}
 use Rattle.column_file.specs.Places.{columnsSize}
-use Rattle.listing_lines.specs.Lines.{textOf}
+use Rattle.listing_lines.specs.Lines.{textOf, refusalLine}
 use Rattle.column_listing.specs.Listing.{linesOf, listed, printed, listingOf}
 use Rattle.column_listing.proofs.Files.{two-each, columns-inside, file-size, strings-there}
 use Rattle.column_listing.proofs.Lengths.{text-length, refusal-length}
+use Rattle.column_listing_laws.specs.Laws.{longest, Fits}
 
 -- ---- the first string of a set is no longer than the set
 
@@ -101,16 +103,27 @@ module _ (s : List ℕ) where
         file-size s f e,
       )
 
+  -- some bytes, and few enough
+  abbrev Short : List ℕ → Type 0
+  Short t = (0 < length t) × (length t ≤ longest)
+
+  by-refusal : (r : Refusal) → Short (refusalLine r)
+  unfolding refusalLine
+  by-refusal r = (omega arith, omega (arith, refusal-length r))
+
   by-strings : (f : File) → readFile s ≡ accepted f → (t : Result Found) → consensusOf defaultCaller (f .strings) ≡ t
-      → length (printed (andThen t (λ u. accepted (textOf (linesOf f u))))) ≤ 2400000
-  by-strings f e (refused r) k = omega (arith, refusal-length r)
-  by-strings f e (accepted u) k = omega (arith, text-length s f u e, consensus-length f u e k, two-each (f .columns))
+      → Short (printed (andThen t (λ u. accepted (textOf (linesOf f u)))))
+  unfolding linesOf
+  by-strings f e (refused r) k = by-refusal r
+  by-strings f e (accepted u) k = (omega arith, omega (arith, text-length s f u e, consensus-length f u e k, two-each (f .columns)))
 
   by-file : (t : Result File) → readFile s ≡ t
-      → length (printed (andThen t (λ f. andThen (consensusOf defaultCaller (f .strings)) (λ u. accepted (textOf (linesOf f u)))))) ≤ 2400000
-  by-file (refused r) e = omega (arith, refusal-length r)
+      → Short (printed (andThen t (λ f. andThen (consensusOf defaultCaller (f .strings)) (λ u. accepted (textOf (linesOf f u))))))
+  by-file (refused r) e = by-refusal r
   by-file (accepted f) e = by-strings f e (consensusOf defaultCaller (f .strings)) refl
 
-pub fits : (s : List ℕ) → length (listingOf s) ≤ 2400000
+pub fits : (s : List ℕ) → Fits s
 unfolding listingOf listed
-fits s = by-file s (readFile s) refl
+fits s =
+    let h = by-file s (readFile s) refl in
+    record { some = h .0; most = h .1 }

@@ -1,8 +1,8 @@
--- What holds of the lines of every file. Definitions only.
+-- What holds of the lines of every file, and how long its listing is. Definitions only.
 use mathlib.Core.Path.{_≡_}
 use mathlib.Core.Bool.{Bool, true, false}
 use mathlib.Core.List.{List, [], _∷_}
-use Prim.Native.Nat.{ℕ, _+_, _≤_}
+use Prim.Native.Nat.{ℕ, _+_, _≤_, _<_}
 use lib.Dec.{eqb}
 use lib.ListN.{length, getD}
 use Rattle.float.specs.Ops.{if_then_else_}
@@ -10,7 +10,7 @@ use Rattle.lent_bytes.specs.Lists.{any, lastOr, isEmpty}
 use Rattle.lent_text.specs.Text.{newline}
 use Rattle.simple_umi.specs.Consensus.{Found}
 use Rattle.column_file.specs.Reading.{File}
-use Rattle.column_listing.specs.Listing.{linesOf}
+use Rattle.column_listing.specs.Listing.{linesOf, listingOf}
 
 -- the newline
 abbrev pub isNewline : ℕ → Bool
@@ -36,3 +36,13 @@ pub record OneLineEach (f : File) (u : Found) : Type 0 where
   pub ends : lastOr 0 (lineAt f u (length (f .columns) + 1)) ≡ newline
   -- and is one line unless the consensus itself has a newline, whose bytes are free
   pub last-line : any isNewline (u .text) ≡ false → isLine (lineAt f u (length (f .columns) + 1)) ≡ true
+
+-- so many bytes hold every listing
+abbrev pub longest : ℕ
+longest = 2400000
+
+-- of any list of numbers, a file or not
+pub record Fits (s : List ℕ) : Type 0 where
+  -- a refused file has its line too
+  pub some : 0 < length (listingOf s)
+  pub most : length (listingOf s) ≤ longest

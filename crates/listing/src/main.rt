@@ -1,27 +1,73 @@
-// Lists the column file on standard input.
+// Lists the column file on standard input. A refused file has its line on standard output; that a read
+// or a write failed is said on standard error, and there alone: the language has no exit status.
 ghost use mathlib.Core.Path.{_≡_};
 ghost use lib.ListN.{length};
+use libc::STDERR_FILENO;
 use libc::STDIN_FILENO;
 use libc::STDOUT_FILENO;
+use stream_listing::INPUT_ROOM;
+use stream_listing::TEXT_ROOM;
 
-// One byte more than a file may have, so that a longer one is seen to be.
-fn input_room() -> [u8; 65537]
-    ensures { λ r. ⌜ 65537 ≡ length r ⌝ }
-{
-    [0; 65537]
+// How many bytes came in, or that a read failed.
+enum Input {
+    Read(usize),
+    Failed,
 }
 
-// Holds every listing.
-fn text_room() -> [u8; 2400000]
-    ensures { λ r. ⌜ 2400000 ≡ length r ⌝ }
+// The rooms are made in functions of their own, so that no proof meets so many zeros.
+fn input_room() -> [u8; INPUT_ROOM]
+    ensures { λ r. do ⌜ (← ⟦INPUT_ROOM⟧ .entry) ≡ length r ⌝ }
 {
-    [0; 2400000]
+    [0; INPUT_ROOM]
+}
+
+fn text_room() -> [u8; TEXT_ROOM] {
+    [0; TEXT_ROOM]
+}
+
+// Reads until the room is full or the input ends. A read that fails is not its end.
+fn read_input(room: &mut [u8]) -> Input {
+    let mut done = 0;
+    while done < room.len() {
+        let got = libc::read(STDIN_FILENO, &mut room[done..]);
+        if got < 0 {
+            return Input::Failed;
+        }
+        let more = io::count(got, &room[done..]);
+        if more == 0 {
+            break;
+        }
+        done += more;
+    }
+    Input::Read(done)
+}
+
+// A listing that is cut must not pass for a whole one.
+fn write_text(text: &[u8]) {
+    if !io::write_all(STDOUT_FILENO, text) {
+        io::write_all(
+            STDERR_FILENO,
+            b"listing: not all of the text could be written\n",
+        );
+    }
+}
+
+fn list(room: &[u8; INPUT_ROOM], read: usize) {
+    let mut text = text_room();
+    let n = stream_listing::print_stream(room, read, &mut text);
+    write_text(&text[..n]);
 }
 
 fn main() {
-    let mut file = input_room();
-    let n = io::read_full(STDIN_FILENO, &mut file);
-    let mut text = text_room();
-    let k = column_listing::print(&file[..n], &mut text);
-    io::write_all(STDOUT_FILENO, &text[..k]);
+    let mut room = input_room();
+    let input = read_input(&mut room);
+    match input {
+        Input::Failed => {
+            io::write_all(
+                STDERR_FILENO,
+                b"listing: standard input could not be read\n",
+            );
+        }
+        Input::Read(n) => list(&room, n),
+    }
 }
