@@ -22,7 +22,7 @@ pub fn full_quality(likelihoods: [f64; 4], m: f64, pre: LogProbability) -> u8
 pub fn call_full(likelihoods: [f64; 4], rule: TieRule, pre: LogProbability) -> Call
     ensures { λ r. ⌜ r ≡ fullCall (pre .0) likelihoods rule ⌝ }
 {
-    let i = tie_rules::unique_max_index_with(likelihoods, rule);
+    let i = tie_rules::max_lane_with(likelihoods, rule);
     if NO_LANE <= i {
         return no_call();
     }

@@ -17,7 +17,7 @@ use tie_rules::TieRule;
 pub fn call_lanes(likelihoods: [f64; 4], rule: TieRule, pre: LogProbability) -> Call
     ensures { λ r. ⌜ r ≡ repliedOr (multibaseReply (pre .0) likelihoods rule) (fullCall (pre .0) likelihoods rule) ⌝ }
 {
-    let i = tie_rules::unique_max_index_with(likelihoods, rule);
+    let i = tie_rules::max_lane_with(likelihoods, rule);
     if NO_LANE <= i {
         return no_call();
     }

@@ -102,7 +102,7 @@ pub fn reply_of_lane(pre: LogProbability, likelihoods: [f64; 4], i: usize, m: f6
 pub fn try_multibase_fast_path(likelihoods: [f64; 4], rule: TieRule, pre: LogProbability) -> Reply
     ensures { λ r. ⌜ r ≡ multibaseReply (pre .0) likelihoods rule ⌝ }
 {
-    let i = tie_rules::unique_max_index_with(likelihoods, rule);
+    let i = tie_rules::max_lane_with(likelihoods, rule);
     if NO_LANE <= i {
         return Reply::Deferred;
     }

@@ -57,7 +57,7 @@ one-more : (P : ℕ → Type 0) (n : ℕ) → P n → ((j : ℕ) → j < n → P
 one-more P n p f j h = elim (eq-or-lt-of-le (le-of-suc-le-suc h)) [ inl e ↦ subst P (sym e) p | inr l ↦ f j l ]
 
 -- what each lane keeps holds of a scan
-scan-keeps : (step : Run → ℕ → Float → Run) (xs : List Float) (P : ℕ → Run → Type 0) → ((n : ℕ) (r : Run) → P n r → P (suc n) (step r n (lane xs n))) → (r : Run) → P 0 r → (n : ℕ) → P n (scan step r xs n)
+pub scan-keeps : (step : Run → ℕ → Float → Run) (xs : List Float) (P : ℕ → Run → Type 0) → ((n : ℕ) (r : Run) → P n r → P (suc n) (step r n (lane xs n))) → (r : Run) → P 0 r → (n : ℕ) → P n (scan step r xs n)
 unfolding scan
 scan-keeps step xs P f r h zero = h
 scan-keeps step xs P f r h (suc n) = f n (scan step r xs n) (scan-keeps step xs P f r h n)

@@ -1,3 +1,4 @@
 pub mod Lanes
 pub mod Ties
 pub mod Lead
+pub mod UniqueMax

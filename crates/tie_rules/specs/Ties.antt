@@ -86,10 +86,11 @@ unfoldable pub scan : (Run → ℕ → Float → Run) → Run → List Float →
 scan step r xs zero = r
 scan step r xs (suc n) = step (scan step r xs n) n (lane xs n)
 
--- before the first lane: nothing taken, and a maximum of -infinity
+-- before the first lane under FgbioCompat: none was taken, so that the maximum is not asked
 abbrev pub unseen : Run
 unseen = record { seen = false; best = nought; at = noLane }
 
+-- before the first lane under UlpRelative: a maximum of -infinity
 abbrev pub lowest : Run
 lowest = record { seen = false; best = lnZero; at = noLane }
 

@@ -4,7 +4,7 @@ ghost use Prim.Native.Nat.{_<_};
 ghost use mathlib.Core.Bool.{true, not, _||_};
 ghost use lib.Dec.{eqb};
 ghost use Rattle.tie_rules.specs.declared.tie_rule.TieRule.the-variants.{FgbioCompat};
-ghost use Rattle.tie_rules.specs.Ties.{ruleOf, fgbioTie, nearPatterns, ulpTie, fgbioTested, tiesWith, untied as untiedOf, noneAbove, fgbioStep, ulpStep, scan, unseen, lowest, fgbioUniqueMaxIndex, uniqueMaxIndex, uniqueMaxIndexWith};
+ghost use Rattle.tie_rules.specs.Ties.{ruleOf, fgbioTie, nearPatterns, ulpTie, fgbioTested, tiesWith, untied as untiedOf, noneAbove, fgbioStep, ulpStep, scan, unseen, lowest, uniqueMaxIndex, uniqueMaxIndexWith};
 use crate::lane::NO_LANE;
 use crate::lead::fgbio_lead;
 
@@ -114,7 +114,7 @@ fn ulp_step(run: Run, k: usize, x: f64) -> Run
     run
 }
 
-fn fgbio_scan(likelihoods: [f64; 4]) -> Run
+pub fn fgbio_scan(likelihoods: [f64; 4]) -> Run
     ensures { λ r. ⌜ r ≡ scan fgbioStep unseen likelihoods 4 ⌝ }
 {
     let mut run = Run {
@@ -249,15 +249,8 @@ pub fn none_above(likelihoods: [f64; 4], m: f64) -> bool
     true
 }
 
-// The lane of the maximum under fgbio's rule, or NO_LANE.
-pub fn fgbio_unique_max_index(likelihoods: [f64; 4]) -> usize
-    ensures { λ r. ⌜ r ≡ fgbioUniqueMaxIndex likelihoods ⌝ }
-{
-    fgbio_scan(likelihoods).at
-}
-
 // The lane of the maximum if it is finite and no other lane ties with it, or NO_LANE.
-pub fn unique_max_index(likelihoods: [f64; 4]) -> usize
+pub fn max_lane(likelihoods: [f64; 4]) -> usize
     ensures { λ r. ⌜ r ≡ uniqueMaxIndex likelihoods ⌝ }
 {
     let run = ulp_scan(likelihoods);
@@ -270,12 +263,12 @@ pub fn unique_max_index(likelihoods: [f64; 4]) -> usize
     NO_LANE
 }
 
-// The lane that the rule names, or NO_LANE.
-pub fn unique_max_index_with(likelihoods: [f64; 4], rule: TieRule) -> usize
+// The lane that the rule names, or NO_LANE: what every call asks.
+pub fn max_lane_with(likelihoods: [f64; 4], rule: TieRule) -> usize
     ensures { λ r. ⌜ r ≡ uniqueMaxIndexWith likelihoods rule ⌝ }
 {
     match rule {
-        TieRule::UlpRelative => unique_max_index(likelihoods),
+        TieRule::UlpRelative => max_lane(likelihoods),
         TieRule::FgbioCompat => fgbio_lead(likelihoods),
     }
 }

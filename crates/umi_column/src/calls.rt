@@ -8,7 +8,7 @@ use base_builder::ConsensusBaseBuilder;
 use base_builder::add_entry;
 use tie_rules::TieRule;
 use tie_rules::base_of;
-use tie_rules::unique_max_index_with;
+use tie_rules::max_lane_with;
 
 // Each byte of the column added to a builder, with the two entries of the tables at the caller's
 // quality. Bytes that are no base are ignored.
@@ -36,7 +36,7 @@ fn named(likelihoods: [f64; 4], rule: TieRule, first: u8) -> u8
     ensures { λ r. ⌜ r ≡ byteBy likelihoods rule first ⌝ }
 {
     if is_dna_base(first) {
-        return base_of(unique_max_index_with(likelihoods, rule));
+        return base_of(max_lane_with(likelihoods, rule));
     }
     first
 }

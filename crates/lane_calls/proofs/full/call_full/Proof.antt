@@ -5,15 +5,15 @@ use borrow.Author.Needs.{needs}
 use Rattle.lane_calls.proofs.full.call_full.Statement.{statement}
 use Rattle.lane_calls.proofs.full.call_full.Tie as tie
 
-unique-max-index-with-requires : tie.Need-unique-max-index-with-requires
-unique-max-index-with-requires c κs = search needs
+max-lane-with-requires : tie.Need-max-lane-with-requires
+max-lane-with-requires c κs = search needs
 
 no-call-requires : tie.Need-no-call-requires
 no-call-requires c κs = search needs
 
 returns : tie.Need-returns
 unfolding fullCall
-returns c = rw (← c .before .before .unique-max-index-with .ensures, le-ltb _ _ (c .before .if1 .taken)) (c .no-call .ensures)
+returns c = rw (← c .before .before .max-lane-with .ensures, le-ltb _ _ (c .before .if1 .taken)) (c .no-call .ensures)
 
 mul-full-quality : tie.Need-mul-full-quality
 mul-full-quality c = search needs
@@ -29,13 +29,13 @@ called-requires c κs = search needs
 
 returns-2 : tie.Need-returns-2
 unfolding fullCall
-returns-2 c = rw (← c .before .before .before .unique-max-index-with .ensures, lt-ltb _ _ (c .before .before .if1 .left), ← c .before .full-quality .ensures) (c .called .ensures)
+returns-2 c = rw (← c .before .before .before .max-lane-with .ensures, lt-ltb _ _ (c .before .before .if1 .left), ← c .before .full-quality .ensures) (c .called .ensures)
 
 pub call-full-spec : {M : Type 1} → statement M
 call-full-spec =
     tie.close
     (tie.spec
-    unique-max-index-with-requires
+    max-lane-with-requires
     no-call-requires
     returns
     mul-full-quality

@@ -4,14 +4,14 @@ use Rattle.lane_calls.proofs.AddedTests.{named-reply, unnamed-reply, na
 use Rattle.lane_calls.proofs.lanes.call_lanes.Statement.{statement}
 use Rattle.lane_calls.proofs.lanes.call_lanes.Tie as tie
 
-unique-max-index-with-requires : tie.Need-unique-max-index-with-requires
-unique-max-index-with-requires c κs = search needs
+max-lane-with-requires : tie.Need-max-lane-with-requires
+max-lane-with-requires c κs = search needs
 
 no-call-requires : tie.Need-no-call-requires
 no-call-requires c κs = search needs
 
 returns : tie.Need-returns
-returns c = let e = c .before .before .unique-max-index-with .ensures in rw (unnamed-reply _ _ _ _ e (c .before .if1 .taken), unnamed-full _ _ _ _ e (c .before .if1 .taken)) (c .no-call .ensures)
+returns c = let e = c .before .before .max-lane-with .ensures in rw (unnamed-reply _ _ _ _ e (c .before .if1 .taken), unnamed-full _ _ _ _ e (c .before .if1 .taken)) (c .no-call .ensures)
 
 mul-m : tie.Need-mul-m
 mul-m c = search needs
@@ -37,12 +37,12 @@ called-requires c κs = search needs
 returns-2 : tie.Need-returns-2
 returns-2 c =
     let o = c .before .before .before in
-    rw (named-reply _ _ _ _ (o .before .before .unique-max-index-with .ensures) (o .before .if1 .left), ← o .reply-of-lane .ensures, c .before .short .given .1)
+    rw (named-reply _ _ _ _ (o .before .before .max-lane-with .ensures) (o .before .if1 .left), ← o .reply-of-lane .ensures, c .before .short .given .1)
 
 returns-3 : tie.Need-returns-3
 returns-3 c =
     let o = c .before .before .before .before in
-    let e = o .before .before .unique-max-index-with .ensures in
+    let e = o .before .before .max-lane-with .ensures in
     let h = o .before .if1 .left in
     rw (named-reply _ _ _ _ e h, ← o .reply-of-lane .ensures, c .before .before .enum-told .given .1, named-full _ _ _ _ e h, ← c .before .full-quality .ensures) (c .called .ensures)
 
@@ -50,7 +50,7 @@ pub call-lanes-spec : {M : Type 1} → statement M
 call-lanes-spec =
     tie.close
     (tie.spec
-    unique-max-index-with-requires
+    max-lane-with-requires
     no-call-requires
     returns
     mul-m

@@ -9,8 +9,8 @@ use Rattle.umi_column.proofs.calls.named.Tie as tie
 is-dna-base-requires : tie.Need-is-dna-base-requires
 is-dna-base-requires c κs = search needs
 
-unique-max-index-with-requires : tie.Need-unique-max-index-with-requires
-unique-max-index-with-requires c κs = search needs
+max-lane-with-requires : tie.Need-max-lane-with-requires
+max-lane-with-requires c κs = search needs
 
 base-of-requires : tie.Need-base-of-requires
 base-of-requires c κs = search needs
@@ -19,7 +19,7 @@ returns : tie.Need-returns
 unfolding byteBy
 returns c =
     rw (← c .before .before .before .is-dna-base .ensures, c .before .before .if1 .taken)
-    (c .base-of .ensures ∙ ap baseOf (c .before .unique-max-index-with .ensures))
+    (c .base-of .ensures ∙ ap baseOf (c .before .max-lane-with .ensures))
 
 returns-2 : tie.Need-returns-2
 unfolding byteBy
@@ -30,7 +30,7 @@ named-spec =
     tie.close
     (tie.spec
     is-dna-base-requires
-    unique-max-index-with-requires
+    max-lane-with-requires
     base-of-requires
     returns
     returns-2)

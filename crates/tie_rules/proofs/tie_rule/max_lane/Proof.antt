@@ -1,9 +1,9 @@
--- `unique_max_index`: a maximum that is finite and alone. Assumes nothing.
+-- `max_lane`: a maximum that is finite and alone. Assumes nothing.
 use borrow.Author.Tests.{not-true, not-false}
 use Rattle.tie_rules.specs.Ties.{uniqueMaxIndex}
 use borrow.Author.Needs.{needs}
-use Rattle.tie_rules.proofs.tie_rule.unique_max_index.Statement.{statement}
-use Rattle.tie_rules.proofs.tie_rule.unique_max_index.Tie as tie
+use Rattle.tie_rules.proofs.tie_rule.max_lane.Statement.{statement}
+use Rattle.tie_rules.proofs.tie_rule.max_lane.Tie as tie
 
 ulp-scan-requires : tie.Need-ulp-scan-requires
 ulp-scan-requires c κs = search needs
@@ -26,7 +26,7 @@ returns-3 : tie.Need-returns-3
 unfolding uniqueMaxIndex
 returns-3 c = rw (← c .before .before .before .before .ulp-scan .ensures, ← c .before .before .before .is-finite .ensures, not-false (c .before .before .before .is-finite .result) (c .before .before .if1 .left), ← c .before .none-ties .ensures, c .if2 .left)
 
-pub unique-max-index-spec : {M : Type 1} → statement M
-unique-max-index-spec =
+pub max-lane-spec : {M : Type 1} → statement M
+max-lane-spec =
     tie.close
     (tie.spec ulp-scan-requires is-finite-requires returns none-ties-requires returns-2 returns-3)
