@@ -1,4 +1,3 @@
-mod Narrowed
 pub mod Middle
 pub mod Promised
 pub mod Demand3

@@ -30,10 +30,6 @@ halved ok e =
     if ok (middle e) then record { low = e .low; high = middle e }
     else record { low = middle e; high = e .high }
 
--- the same for the quality that the middle has
-abbrev pub narrowed : ℕ → ℕ → Ends → Ends
-narrowed level quality e = halved (λ _. leb level quality) e
-
 -- n halvings of 0 to 256
 unfoldable pub halvings : (Float → Bool) → ℕ → Ends
 halvings ok zero = record { low = gap0; high = gap256 }

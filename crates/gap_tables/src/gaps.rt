@@ -5,7 +5,7 @@ ghost use Prim.Native.Nat.{_≤_};
 ghost use Rattle.rate_tables.specs.Tables.{levels};
 ghost use Rattle.gap_tables.specs.Thresholds.{thresholdWith};
 ghost use Rattle.gap_tables.specs.Gaps.{unanimousQualityFromGap, thresholdAt, consensusError, cerrFrom, gapTables};
-use crate::thresholds::two_thresholds;
+use crate::thresholds::threshold_with;
 use phred::LogProbability;
 use phred::PhredScore;
 
@@ -34,14 +34,11 @@ fn threshold_table(pre: LogProbability, least: u8, most: u8) -> [f64; 94]
     ensures { λ r. ⌜ r ≡ levels (thresholdWith (unanimousQualityFromGap (pre .0)) least most) ⌝ }
 {
     let mut table = [0.0; 94];
-    let mut pair: u8 = 0;
-    while pair < 47 {
-        let level = 2 * pair;
-        let two = two_thresholds(pre, least, most, level);
+    let mut level: u8 = 0;
+    while level < 94 {
         let at = level as usize;
-        table[at] = two.first;
-        table[at + 1] = two.second;
-        pair += 1;
+        table[at] = threshold_with(pre, least, most, level);
+        level += 1;
     }
     table
 }

@@ -10,7 +10,6 @@ pub use lane::lane_of;
 pub use tie_rule::TieRule;
 pub use tie_rule::fgbio_tie;
 pub use tie_rule::max_lane_with;
-pub use tie_rule::none_above;
 pub use tie_rule::rule_of;
 pub use tie_rule::ties_with;
 pub use tie_rule::ulp_tie;

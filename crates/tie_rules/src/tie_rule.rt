@@ -4,7 +4,7 @@ ghost use Prim.Native.Nat.{_<_};
 ghost use mathlib.Core.Bool.{true, not, _||_};
 ghost use lib.Dec.{eqb};
 ghost use Rattle.tie_rules.specs.declared.tie_rule.TieRule.the-variants.{FgbioCompat};
-ghost use Rattle.tie_rules.specs.Ties.{ruleOf, fgbioTie, nearPatterns, ulpTie, fgbioTested, tiesWith, untied as untiedOf, noneAbove, fgbioStep, ulpStep, scan, unseen, lowest, uniqueMaxIndex, uniqueMaxIndexWith};
+ghost use Rattle.tie_rules.specs.Ties.{ruleOf, fgbioTie, nearPatterns, ulpTie, fgbioTested, tiesWith, untied as untiedOf, fgbioStep, ulpStep, scan, unseen, lowest, uniqueMaxIndex, uniqueMaxIndexWith};
 use crate::lane::NO_LANE;
 use crate::lead::fgbio_lead;
 
@@ -233,20 +233,6 @@ pub fn untied(rule: TieRule, likelihoods: [f64; 4], i: usize, m: f64) -> bool
         TieRule::UlpRelative => none_ties(TieRule::UlpRelative, likelihoods, i, m),
         TieRule::FgbioCompat => fgbio_untied(likelihoods, i, m),
     }
-}
-
-// Whether no lane is above the value m.
-pub fn none_above(likelihoods: [f64; 4], m: f64) -> bool
-    ensures { λ r. ⌜ r ≡ noneAbove likelihoods m ⌝ }
-{
-    let mut j = 0;
-    while j < 4 {
-        if m < likelihoods[j] {
-            return false;
-        }
-        j += 1;
-    }
-    true
 }
 
 // The lane of the maximum if it is finite and no other lane ties with it, or NO_LANE.

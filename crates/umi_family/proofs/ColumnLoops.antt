@@ -21,9 +21,9 @@ use Rattle.tie_rules.specs.declared.tie_rule.TieRule.{TieRule}
 use Rattle.rate_tables.proofs.Filled.{listed-length, level-at}
 use Rattle.umi_column.specs.Verdicts.{verdictOf}
 use Rattle.umi_column.specs.declared.sums.LaneSums.{LaneSums}
-use Rattle.umi_column.specs.Sums.{noSums, windowOf, summedBy, summedAll, byteBy}
+use Rattle.umi_column.specs.Sums.{windowOf, summedBy, summedAll}
 use Rattle.umi_family.specs.Rows.{bytesAt, columnsAt}
-use Rattle.umi_family.specs.Family.{builderBy, bytesBy, bytesSummed, lastBy}
+use Rattle.umi_family.specs.Family.{builderBy, bytesBy, byteSummed, bytesSummed, lastBy}
 use Rattle.umi_family.proofs.RowLoops.{map-at, given-length, given-at}
 
 -- ---- a list filled place by place with what another holds
@@ -51,6 +51,9 @@ module _ (window : List Float) (f : ℕ → ℕ) (ps : List ℕ) (k : ℕ) (sums
       rw (drop-of-length-le (map f ps) l)
 
 -- ---- the columns
+pub first-byte : (s ps : List ℕ) (at : ℕ) → 0 < length ps → byteAt (bytesAt at s ps) 0 ≡ byteAt s (byteAt ps 0 + 1 + at)
+first-byte s ps at h = given-at _ ps 0 0 h
+
 module _ (w : ℕ) (s ps : List ℕ) where
   pub columns-length : length (columnsAt w s ps) ≡ w
   unfolding columnsAt
@@ -60,43 +63,20 @@ module _ (w : ℕ) (s ps : List ℕ) where
   unfolding columnsAt
   column-at at h = level-at (λ k. bytesAt k s ps) [] w at h
 
-  pub first-byte : (at : ℕ) → 0 < length ps → byteAt (bytesAt at s ps) 0 ≡ byteAt s (byteAt ps 0 + 1 + at)
-  first-byte at h = given-at _ ps 0 0 h
-
   -- the byte at a place by the sums of its column
-  pub summed-at : (window : List Float) (rule : TieRule) (at : ℕ) → at < w → 0 < length ps
-      → getD (bytesSummed window rule (columnsAt w s ps)) at 0 ≡ byteBy (summedAll window (bytesAt at s ps) noSums .likelihoods) rule (byteAt s (byteAt ps 0 + 1 + at))
-  summed-at window rule at h g =
-      map-at _ (columnsAt w s ps) at [] 0 (rw columns-length h) ∙ rw (column-at at h, first-byte at g)
+  pub summed-at : (window : List Float) (rule : TieRule) (at : ℕ) → at < w → getD (bytesSummed window rule (columnsAt w s ps)) at 0 ≡ byteSummed window rule (bytesAt at s ps)
+  summed-at window rule at h = map-at _ (columnsAt w s ps) at [] 0 (rw columns-length h) ∙ rw (column-at at h)
 
   pub summed-length : (window : List Float) (rule : TieRule) → length (bytesSummed window rule (columnsAt w s ps)) ≡ w
   summed-length window rule = length-map (columnsAt w s ps) _ ∙ columns-length
 
   -- a column more
-  pub column-more : (window : List Float) (rule : TieRule) (text : List ℕ) (at x : ℕ) → length text ≡ w → at < w → 0 < length ps
-      → x ≡ byteBy (summedAll window (bytesAt at s ps) noSums .likelihoods) rule (byteAt s (byteAt ps 0 + 1 + at))
+  pub column-more : (window : List Float) (rule : TieRule) (text : List ℕ) (at x : ℕ) → length text ≡ w → at < w → x ≡ byteSummed window rule (bytesAt at s ps)
       → take at text ≡ take at (bytesSummed window rule (columnsAt w s ps)) → take (at + 1) (set text at x) ≡ take (at + 1) (bytesSummed window rule (columnsAt w s ps))
-  column-more window rule text at x n h some e told =
+  column-more window rule text at x n h e told =
       let bytes = bytesSummed window rule (columnsAt w s ps) in
       let size : length bytes ≡ w = summed-length window rule in
-      filled-more text bytes at 0 x (omega arith) (omega arith) (e ∙ sym (summed-at window rule at h some)) told
-
-  -- two columns more
-  pub pair-more : (window : List Float) (rule : TieRule) (text : List ℕ) (at : ℕ) (left right : LaneSums) (x y : ℕ)
-      → length text ≡ w → at + 1 < w → 0 < length ps
-      → left ≡ summedAll window (bytesAt at s ps) noSums → right ≡ summedAll window (bytesAt (at + 1) s ps) noSums
-      → x ≡ byteBy (left .likelihoods) rule (byteAt s (byteAt ps 0 + 1 + at)) → y ≡ byteBy (right .likelihoods) rule (byteAt s (byteAt ps 0 + 1 + at + 1))
-      → take at text ≡ take at (bytesSummed window rule (columnsAt w s ps))
-      → take (at + 2) (set (set text at x) (at + 1) y) ≡ take (at + 2) (bytesSummed window rule (columnsAt w s ps))
-  pair-more window rule text at left right x y n h some l r e f told =
-      let bytes = bytesSummed window rule (columnsAt w s ps) in
-      let size : length bytes ≡ w = summed-length window rule in
-      let two : at + 2 ≡ at + 1 + 1 = omega arith in
-      let place : byteAt ps 0 + 1 + at + 1 ≡ byteAt ps 0 + 1 + (at + 1) = omega arith in
-      let at-left : x ≡ getD bytes at 0 = e ∙ rw l (sym (summed-at window rule at (omega arith) some)) in
-      let at-right : y ≡ getD bytes (at + 1) 0 = f ∙ rw (r, place) (sym (summed-at window rule (at + 1) h some)) in
-      let first = filled-more text bytes at 0 x (omega arith) (omega arith) at-left told in
-      rw two (filled-more (set text at x) bytes (at + 1) 0 y (omega arith) (simp length-set (omega arith)) at-right first)
+      filled-more text bytes at 0 x (omega arith) (omega arith) (e ∙ sym (summed-at window rule at h)) told
 
 -- the first faulty column, of which k are passed
 module _ (cs : List (List ℕ)) (k : ℕ) where

@@ -40,9 +40,13 @@ builderBy e b column = addedAll (e .correct) (e .«error_per_alt») column (rese
 abbrev pub bytesBy : AdjustedEntry → ConsensusBaseBuilder → List (List ℕ) → List ℕ
 bytesBy e b columns = map (λ column. namedByte (builderBy e b column) (byteAt column 0)) columns
 
--- the same by the sums of its lanes alone, whose values lie in a window
+-- the byte of a column by the sums of its lanes alone, whose values lie in a window
+abbrev pub byteSummed : List Float → TieRule → List ℕ → ℕ
+byteSummed window rule column = byteBy (summedAll window column noSums .likelihoods) rule (byteAt column 0)
+
+-- a byte for each column, by its sums
 abbrev pub bytesSummed : List Float → TieRule → List (List ℕ) → List ℕ
-bytesSummed window rule columns = map (λ column. byteBy (summedAll window column noSums .likelihoods) rule (byteAt column 0)) columns
+bytesSummed window rule columns = map (byteSummed window rule) columns
 
 -- the builder after the last
 abbrev pub lastBy : AdjustedEntry → ConsensusBaseBuilder → List (List ℕ) → ConsensusBaseBuilder

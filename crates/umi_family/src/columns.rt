@@ -2,26 +2,18 @@
 ghost use mathlib.Core.Path.{_≡_};
 ghost use Prim.Native.Nat.{_+_, _-_};
 ghost use lib.ListN.{length, take};
-ghost use Rattle.umi_column.specs.Sums.{noSums, windowOf, summedAll};
+ghost use Rattle.umi_column.specs.Sums.{windowOf};
 ghost use Rattle.umi_family.specs.Rows.{Fits, bytesAt, columnsAt};
 ghost use Rattle.umi_family.specs.Family.{bytesBy, bytesSummed, lastBy};
+use crate::by_sums::call_summed;
 use crate::counts::counts_decide;
 use crate::leads::call_counted;
 use base_builder::ConsensusBaseBuilder;
 use rate_tables::AdjustedEntry;
 use tie_rules::TieRule;
-use umi_column::LaneSums;
-use umi_column::add_base;
 use umi_column::add_column;
 use umi_column::consensus_byte;
-use umi_column::no_sums;
-use umi_column::sums_byte;
 use umi_column::window_of;
-
-pub struct Two {
-    pub left: LaneSums,
-    pub right: LaneSums,
-}
 
 // The bytes that the strings have at one place.
 pub(crate) fn gather(set: &[u8], places: &[usize], at: usize) -> [u8; 255]
@@ -35,41 +27,6 @@ pub(crate) fn gather(set: &[u8], places: &[usize], at: usize) -> [u8; 255]
         k += 1;
     }
     column
-}
-
-// Two columns side by side: while a step of the one waits for the step before, the other goes on.
-fn sum_two(window: &[f64; 8], set: &[u8], places: &[usize], at: usize) -> Two
-    requires { ⌜ Fits (at + 2) (now set) (now places) ⌝ }
-    ensures left { λ r. ⌜ r .left ≡ summedAll (now (window .entry)) (bytesAt at (now (set .entry)) (now (places .entry))) noSums ⌝ }
-    ensures right { λ r. ⌜ r .right ≡ summedAll (now (window .entry)) (bytesAt (at + 1) (now (set .entry)) (now (places .entry))) noSums ⌝ }
-{
-    let mut left = no_sums();
-    let mut right = no_sums();
-    let mut k = 0;
-    while k < places.len() {
-        let from = places[k] + 1 + at;
-        left = add_base(left, window, set[from]);
-        right = add_base(right, window, set[from + 1]);
-        k += 1;
-    }
-    Two { left, right }
-}
-
-// The bytes of all columns but the last, and where their number is even of that too.
-fn call_pairs(rule: TieRule, window: &[f64; 8], set: &[u8], places: &[usize], text: &mut [u8])
-    requires { ⌜ Fits (length (now text)) (now set) (now places) ⌝ }
-    ensures { λ _. ⌜ take (length (now (text .entry)) - 1) (now (text .exit)) ≡ take (length (now (text .entry)) - 1) (bytesSummed (now (window .entry)) rule (columnsAt (length (now (text .entry))) (now (set .entry)) (now (places .entry)))) ⌝ }
-{
-    let first = places[0] + 1;
-    let mut at = 0;
-    while at + 1 < text.len() {
-        let two = sum_two(window, set, places, at);
-        let left = two.left;
-        let right = two.right;
-        text[at] = sums_byte(left, rule, set[first + at]);
-        text[at + 1] = sums_byte(right, rule, set[first + at + 1]);
-        at += 2;
-    }
 }
 
 // The bytes of all columns but the last: by counts where these decide and have room, else by sums
@@ -92,7 +49,7 @@ fn call_others(
             return;
         }
     }
-    call_pairs(rule, &window, set, places, text);
+    call_summed(rule, &window, set, places, text);
 }
 
 // The last column is added to a builder, since it is to be as that column leaves it.

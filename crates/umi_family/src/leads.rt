@@ -2,41 +2,23 @@
 ghost use mathlib.Core.Path.{_≡_};
 ghost use Prim.Native.Nat.{_+_, _-_, _≤_, _<_};
 ghost use lib.ListN.{length, take};
-ghost use Rattle.lent_bytes.specs.Lists.{byteAt};
 ghost use Rattle.tie_rules.specs.declared.tie_rule.TieRule.the-variants.{FgbioCompat};
 ghost use Rattle.tie_rules.specs.Ties.{uniqueMaxIndexWith};
-ghost use Rattle.umi_column.specs.Sums.{noSums, summedAll, byteBy};
+ghost use Rattle.umi_column.specs.Sums.{noSums, summedAll};
 ghost use Rattle.umi_family.specs.Rows.{Fits, bytesAt, columnsAt};
 ghost use Rattle.umi_family.specs.Counts.{CountsOf, Faithful};
-ghost use Rattle.umi_family.specs.Family.{bytesSummed};
+ghost use Rattle.umi_family.specs.Family.{byteSummed, bytesSummed};
+use crate::by_sums::summed_byte;
 use crate::counts::count_row;
 use crate::counts::leader;
 use tie_rules::TieRule;
 use tie_rules::base_of;
-use umi_column::LaneSums;
-use umi_column::add_base;
 use umi_column::is_dna_base;
-use umi_column::no_sums;
-use umi_column::sums_byte;
 
-// The sums of one column.
-fn sum_one(window: &[f64; 8], set: &[u8], places: &[usize], at: usize) -> LaneSums
-    requires { ⌜ Fits (at + 1) (now set) (now places) ⌝ }
-    ensures { λ r. ⌜ r ≡ summedAll (now (window .entry)) (bytesAt at (now (set .entry)) (now (places .entry))) noSums ⌝ }
-{
-    let mut sums = no_sums();
-    let mut k = 0;
-    while k < places.len() {
-        sums = add_base(sums, window, set[places[k] + 1 + at]);
-        k += 1;
-    }
-    sums
-}
-
-// The byte of a column that a lane leads. Where none does its sums are worked out.
+// The byte of a column that a lane leads. Where none does, it is summed.
 fn led_byte(lead: usize, window: &[f64; 8], set: &[u8], places: &[usize], at: usize) -> u8
     requires { ⌜ Fits (at + 1) (now set) (now places) × (lead < 4 → uniqueMaxIndexWith (summedAll (now window) (bytesAt at (now set) (now places)) noSums .likelihoods) FgbioCompat ≡ lead) ⌝ }
-    ensures { λ r. ⌜ r ≡ byteBy (summedAll (now (window .entry)) (bytesAt at (now (set .entry)) (now (places .entry))) noSums .likelihoods) FgbioCompat (byteAt (now (set .entry)) (byteAt (now (places .entry)) 0 + 1 + at)) ⌝ }
+    ensures { λ r. ⌜ r ≡ byteSummed (now (window .entry)) FgbioCompat (bytesAt at (now (set .entry)) (now (places .entry))) ⌝ }
 {
     let first = set[places[0] + 1 + at];
     if !is_dna_base(first) {
@@ -45,8 +27,7 @@ fn led_byte(lead: usize, window: &[f64; 8], set: &[u8], places: &[usize], at: us
     if lead < 4 {
         return base_of(lead);
     }
-    let sums = sum_one(window, set, places, at);
-    sums_byte(sums, TieRule::FgbioCompat, first)
+    summed_byte(TieRule::FgbioCompat, window, set, places, at)
 }
 
 // The bytes of all columns but the last, by the counts of A, C, G and T at each place.

@@ -1,4 +1,5 @@
 // A family: strings of one width that lie in a set. Each place is that of a string's length byte.
+mod by_sums;
 mod calls;
 mod columns;
 mod counts;

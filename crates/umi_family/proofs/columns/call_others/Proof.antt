@@ -26,14 +26,14 @@ returns c =
     let so = d .counts-decide .ensures (c .before .before .before .before .before .if2 .taken) in
     rw (so .0, ← d .before .before .window-of .ensures) (c .before .before .call-counted .ensures)
 
-call-pairs-requires : tie.Need-call-pairs-requires
-call-pairs-requires c κs = search needs
+call-summed-requires : tie.Need-call-summed-requires
+call-summed-requires c κs = search needs
 
 same-length-2 : tie.Need-same-length-2
 same-length-2 c = search needs
 
 returns-2 : tie.Need-returns-2
-returns-2 c = rw (c .before .before .before .before .before .before .window-of .ensures) at (c .before .before .call-pairs .ensures)
+returns-2 c = rw (c .before .before .before .before .before .before .window-of .ensures) at (c .before .before .call-summed .ensures)
 
 pub call-others-spec : {M : Type 1} → statement M
 call-others-spec =
@@ -44,6 +44,6 @@ call-others-spec =
     call-counted-requires
     same-length
     returns
-    call-pairs-requires
+    call-summed-requires
     same-length-2
     returns-2)

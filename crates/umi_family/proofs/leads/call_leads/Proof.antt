@@ -69,12 +69,10 @@ loop-less c = search needs
 loop-again : tie.Need-loop-again Inv-loop μ-loop
 loop-again c =
     let o = c .before .before .before .before .before .before .before in
-    let s = o .before .before .before .before in
-    let a = s .args in (
+    let a = o .before .before .before .before .args in (
       simp length-set (o .loop .inv .0),
       omega arith,
-      column-more (length (a .text .now)) (a .set .now) (a .places .now) (a .window .now) FgbioCompat (o .loop .text) (o .loop .at) _ (o .loop .inv .0) (omega arith) (s .pre .1 .0) (c .led-byte .ensures)
-          (o .loop .inv .2),
+      column-more (length (a .text .now)) (a .set .now) (a .places .now) (a .window .now) FgbioCompat (o .loop .text) (o .loop .at) _ (o .loop .inv .0) (omega arith) (c .led-byte .ensures) (o .loop .inv .2),
     )
 
 same-length : tie.Need-same-length Inv-loop μ-loop
