@@ -1,17 +1,21 @@
 -- What each reader says has the number of what was refused. Assumes nothing.
 use mathlib.Core.Path.{_≡_, refl}
 use mathlib.Core.List.{List}
-use Prim.Native.Nat.{ℕ}
+use Prim.Native.Nat.{ℕ, _+_, _*_}
+use lib.Dec.{leb}
+use lib.ListN.{length}
+use Rattle.float.proofs.Cases.{test}
 use Rattle.refusals.specs.Refusals.{numberIn}
 use Rattle.refusals.specs.Result.{Result, refused, accepted}
-use Rattle.refusals.proofs.Numbers.{numbered}
+use Rattle.refusals.proofs.Numbers.{said-number, numbered}
 use Rattle.column_file.specs.declared.settings.Settings.{Settings}
 use Rattle.column_file.specs.declared.settings.SettingsReading.{SettingsReading}
+use Rattle.column_file.specs.declared.columns.ColumnPlace.{ColumnPlace}
 use Rattle.column_file.specs.declared.columns.ColumnReading.{ColumnReading}
 use Rattle.column_file.specs.declared.file.Reading.{Reading}
 use Rattle.column_file.specs.Format.{Observation}
 use Rattle.column_file.specs.Reading.{File, readFile, readSettings, readColumn}
-use Rattle.column_file.specs.Places.{readingOf, readingNumber, settingsReadingOf, settingsNumber, columnReadingOf, columnNumber}
+use Rattle.column_file.specs.Places.{wordAt, columnAt, columnNumberAt, placeNumber, readingOf, readingNumber, settingsReadingOf, settingsNumber, columnReadingOf, columnNumber}
 
 file-number : (q : Result File) → readingNumber (readingOf q) ≡ numberIn q
 file-number (refused x) = refl
@@ -37,3 +41,12 @@ module _ (s : List ℕ) where
   pub column-said : (r : ColumnReading) → r ≡ columnReadingOf (readColumn s)
       → (r ≡ columnReadingOf (readColumn s)) × (columnNumber r ≡ numberIn (readColumn s))
   column-said r e = numbered columnReadingOf columnNumber column-number r (readColumn s) e
+
+-- and what a place is
+module _ (s : List ℕ) (at : ℕ) where
+  place-number : placeNumber (columnAt s at) ≡ columnNumberAt s at
+  unfolding columnAt columnNumberAt
+  place-number = test (leb (at + 2 + 2 * wordAt s at) (length s)) (λ h. rw h) (λ h. rw h)
+
+  pub place-said : (r : ColumnPlace) → r ≡ columnAt s at → (r ≡ columnAt s at) × (placeNumber r ≡ columnNumberAt s at)
+  place-said r e = said-number placeNumber (columnAt s at) (columnNumberAt s at) place-number r e

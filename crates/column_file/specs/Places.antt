@@ -6,6 +6,7 @@ use lib.Dec.{leb}
 use lib.ListN.{length, drop}
 use Rattle.float.specs.Ops.{if_then_else_}
 use Rattle.lent_bytes.specs.Lists.{byteAt}
+use Rattle.refusals.specs.declared.Refusal.the-variants.{CutOff}
 use Rattle.refusals.specs.declared.Verdict.{Verdict}
 use Rattle.refusals.specs.Refusals.{numberOf}
 use Rattle.refusals.specs.Result.{Result, refused, accepted, orElse}
@@ -49,6 +50,12 @@ unfoldable pub columnAt : List ℕ → ℕ → ColumnPlace
 columnAt s at =
     if leb (at + 2 + 2 * wordAt s at) (length s) then column.At (at + 2) (wordAt s at)
     else column.Past
+
+-- the number of that: 2 where the bytes do not reach
+unfoldable pub columnNumberAt : List ℕ → ℕ → ℕ
+columnNumberAt s at =
+    if leb (at + 2 + 2 * wordAt s at) (length s) then 0
+    else 2
 
 -- n observations from a place on
 abbrev pub observationsAt : List ℕ → ℕ → ℕ → List Observation
@@ -116,6 +123,10 @@ readingNumber (reading.Accepted p) = 0
 abbrev pub settingsNumber : SettingsReading → ℕ
 settingsNumber (settings.Refused r) = numberOf r
 settingsNumber (settings.Accepted g n) = 0
+
+abbrev pub placeNumber : ColumnPlace → ℕ
+placeNumber (column.At start n) = 0
+placeNumber column.Past = numberOf CutOff
 
 abbrev pub columnNumber : ColumnReading → ℕ
 columnNumber (columnReading.Refused r) = numberOf r

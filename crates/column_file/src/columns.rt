@@ -7,7 +7,7 @@ ghost use Rattle.refusals.specs.Refusals.{numberIn};
 ghost use Rattle.string_set.specs.Readers.{many};
 ghost use Rattle.column_file.specs.Format.{column};
 ghost use Rattle.column_file.specs.Reading.{columnVerdict, readColumn};
-ghost use Rattle.column_file.specs.Places.{columnAt, observationsAt, walkedFrom, columnReadingOf, columnNumber};
+ghost use Rattle.column_file.specs.Places.{columnAt, columnNumberAt, placeNumber, observationsAt, walkedFrom, columnReadingOf, columnNumber};
 use crate::settings::word_at;
 use refusals::Refusal;
 use refusals::Verdict;
@@ -33,7 +33,8 @@ pub enum Walked {
 
 // The column whose count is at a place.
 pub fn column_at(file: &[u8], at: usize) -> ColumnPlace
-    ensures { λ r. ⌜ r ≡ columnAt (now (file .entry)) at ⌝ }
+    ensures place { λ r. ⌜ r ≡ columnAt (now (file .entry)) at ⌝ }
+    ensures number { λ r. ⌜ placeNumber r ≡ columnNumberAt (now (file .entry)) at ⌝ }
 {
     if file.len() <= at {
         return ColumnPlace::Past;

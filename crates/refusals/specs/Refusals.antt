@@ -1,7 +1,9 @@
 -- Document 01's numbers. Definitions only.
-use Prim.Native.Nat.{ℕ}
+use Prim.Native.Nat.{ℕ, zero, suc}
 use Rattle.refusals.specs.declared.Refusal.{Refusal}
 use Rattle.refusals.specs.declared.Refusal.the-variants.{FileTooLong, CutOff, BadSettings, AbsentQuality, NoStrings, LengthsDiffer, NotAscii, UnlikeFirst, Mixed, BufferTooShort}
+use Rattle.refusals.specs.declared.Verdict.{Verdict}
+use Rattle.refusals.specs.declared.Verdict.the-variants.{Sound, Refused}
 use Rattle.refusals.specs.Result.{Result, refused, accepted}
 
 -- the number of a refusal
@@ -21,3 +23,13 @@ numberOf BufferTooShort = 10
 abbrev pub numberIn : {A : Type 0} → Result A → ℕ
 numberIn (refused r) = numberOf r
 numberIn (accepted a) = 0
+
+-- the number by which a test refuses, 0 where it does not
+abbrev pub verdictNumber : Verdict → ℕ
+verdictNumber Sound = 0
+verdictNumber (Refused r) = numberOf r
+
+-- the first of two numbers that is not 0
+abbrev pub firstNumber : ℕ → ℕ → ℕ
+firstNumber zero n = n
+firstNumber (suc m) n = suc m

@@ -1,6 +1,6 @@
 // The numbered conditions under which a column file, a part of one or a string set is refused.
 ghost use mathlib.Core.Path.{_≡_};
-ghost use Rattle.refusals.specs.Refusals.{numberOf};
+ghost use Rattle.refusals.specs.Refusals.{numberOf, verdictNumber, firstNumber};
 ghost use Rattle.refusals.specs.Result.{orElse};
 
 pub enum Refusal {
@@ -34,7 +34,8 @@ pub enum Verdict {
 
 // The first of two that refuses.
 pub fn or_else(first: Verdict, second: Verdict) -> Verdict
-    ensures { λ r. ⌜ r ≡ orElse first second ⌝ }
+    ensures verdict { λ r. ⌜ r ≡ orElse first second ⌝ }
+    ensures number { λ r. ⌜ verdictNumber r ≡ firstNumber (verdictNumber first) (verdictNumber second) ⌝ }
 {
     match first {
         Verdict::Refused(refusal) => Verdict::Refused(refusal),

@@ -10,9 +10,12 @@ use borrow.Author.Tests.{eqb-true, eq-eqb}
 use Rattle.float.proofs.Cases.{test, clash, both, and-false}
 use Rattle.lent_bytes.specs.Lists.{any, every, byteAt}
 use Rattle.refusals.specs.declared.Refusal.the-variants.{UnlikeFirst, Mixed}
+use Rattle.refusals.specs.declared.Verdict.{Verdict}
 use Rattle.refusals.specs.declared.Verdict.the-variants.{Sound, Refused}
+use Rattle.refusals.specs.Refusals.{verdictNumber}
+use Rattle.refusals.proofs.Numbers.{said-number}
 use Rattle.umi_column.specs.Dna.{isDnaBase}
-use Rattle.umi_column.specs.Verdicts.{isUnlike, isMixed, verdictOf}
+use Rattle.umi_column.specs.Verdicts.{isUnlike, isMixed, verdictOf, verdictNumberOf}
 use Rattle.lent_bytes.proofs.Tests.{none-by-none, none-by-every}
 
 -- no DNA
@@ -75,3 +78,12 @@ all-same-sound x (y ∷ ys) e h =
     no-dna-sound (y ∷ ys)
     (none-by-every is (isUnlike y) (λ z k. rw (eq-eqb z y (eqb-true z x k ∙ sym first), and-false)) (y ∷ ys) h)
     (none-by-every is isDnaBase (λ z k. ap isDnaBase (eqb-true z x k) ∙ e) (y ∷ ys) h)
+
+-- the verdict's number
+verdict-number : (column : List ℕ) → verdictNumber (verdictOf column) ≡ verdictNumberOf column
+unfolding verdictOf verdictNumberOf
+verdict-number column =
+    test (any (isUnlike (byteAt column 0)) column) (λ u. rw u) (λ u. test (isMixed column) (λ m. rw (u, m)) (λ m. rw (u, m)))
+
+pub verdict-said : (column : List ℕ) (v : Verdict) → v ≡ verdictOf column → (v ≡ verdictOf column) × (verdictNumber v ≡ verdictNumberOf column)
+verdict-said column v e = said-number verdictNumber (verdictOf column) (verdictNumberOf column) (verdict-number column) v e

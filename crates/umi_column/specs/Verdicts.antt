@@ -24,3 +24,10 @@ verdictOf column =
     if any (isUnlike (byteAt column 0)) column then Refused UnlikeFirst
     else if isMixed column then Refused Mixed
     else Sound
+
+-- document 01's number of it, 0 where nothing is refused
+unfoldable pub verdictNumberOf : List ℕ → ℕ
+verdictNumberOf column =
+    if any (isUnlike (byteAt column 0)) column then 8
+    else if isMixed column then 9
+    else 0

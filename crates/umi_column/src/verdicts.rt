@@ -1,8 +1,9 @@
 // What is refused in a column.
 ghost use mathlib.Core.Path.{_≡_};
 ghost use Rattle.lent_bytes.specs.Lists.{any};
+ghost use Rattle.refusals.specs.Refusals.{verdictNumber};
 ghost use Rattle.umi_column.specs.Dna.{isDnaBase};
-ghost use Rattle.umi_column.specs.Verdicts.{isUnlike, verdictOf};
+ghost use Rattle.umi_column.specs.Verdicts.{isUnlike, verdictOf, verdictNumberOf};
 use crate::dna::is_dna_base;
 use refusals::Refusal;
 use refusals::Verdict;
@@ -38,7 +39,8 @@ fn any_dna(column: &[u8]) -> bool
 
 // A non-DNA byte unlike the first is refused before a mixture.
 pub fn column_verdict(column: &[u8]) -> Verdict
-    ensures { λ r. ⌜ r ≡ verdictOf (now (column .entry)) ⌝ }
+    ensures verdict { λ r. ⌜ r ≡ verdictOf (now (column .entry)) ⌝ }
+    ensures number { λ r. ⌜ verdictNumber r ≡ verdictNumberOf (now (column .entry)) ⌝ }
 {
     if column.len() == 0 {
         return Verdict::Sound;

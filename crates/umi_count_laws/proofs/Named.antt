@@ -25,6 +25,7 @@ use Rattle.tie_rules.proofs.Clear.{all-clear}
 use Rattle.base_builder_history.proofs.Named.{named}
 use Rattle.umi_column.specs.Sums.{noSums, windowOf, sumAt, summedAll}
 use Rattle.umi_column.specs.Counts.{countOf, apart, Leads}
+use Rattle.umi_count_laws.specs.Named.{NamedByCounts}
 use Rattle.umi_count_laws.proofs.Rounding.{near}
 use Rattle.umi_count_laws.proofs.Places.{Fine, At, over, under, unit, base, less, lt-is, lt-places, le-places}
 use Rattle.umi_count_laws.proofs.KahanStep.{Stands}
@@ -173,8 +174,7 @@ far-lt : (z : Float) → le two z ≡ true → lt epsilon z ≡ true
 far-lt z h = test (lt epsilon z) (λ t. t) (λ t. clash two-above (le-le two z epsilon h (not-lt-le epsilon z eps-number (le-numbers two z h .1) t)))
 
 -- ---- the theorem
-pub named-by-counts : (correct error : Float) → apart correct error ≡ true → (column : List ℕ) → length column ≤ 255 → (i : ℕ) → i < 4 → Leads column i
-    → uniqueMaxIndexWith (summedAll (windowOf correct error) column noSums .likelihoods) FgbioCompat ≡ i
+pub named-by-counts : NamedByCounts
 unfolding apart
 named-by-counts correct error h column short i inside leads =
     let (ab, c) = both (le lowest error && le correct nought) (le two (correct ⊖ error)) h in

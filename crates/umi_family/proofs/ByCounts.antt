@@ -1,20 +1,12 @@
--- A lane that was observed more often than each other is the one that the sums name. Assumes nothing.
+-- Four counts of which one is above each other: so the lane leads the column. Assumes nothing.
 use mathlib.Core.Path.{_≡_, refl}
-use mathlib.Core.Bool.{true}
 use mathlib.Core.List.{List, [], _∷_}
 use mathlib.Core.Logic.{_≢_}
 use Prim.Native.Nat.{ℕ, suc, zero, _<_}
 use native.Mathlib.Omega.{arith}
-use lib.Ieee.{Float}
 use lib.ListN.{getD}
-use Rattle.umi_column.specs.Sums.{windowOf}
-use Rattle.umi_column.specs.Counts.{countOf, apart, Leads}
-use Rattle.umi_count_laws.proofs.Named.{named-by-counts}
-use Rattle.umi_family.specs.Counts.{Above, Faithful}
-
--- the logarithms lie apart
-pub faithful : (correct error : Float) → apart correct error ≡ true → Faithful (windowOf correct error)
-faithful = named-by-counts
+use Rattle.umi_column.specs.Counts.{countOf, Leads}
+use Rattle.umi_family.specs.Counts.{Above}
 
 -- ---- of four counts, one that is above the three others
 four : (P : ℕ → Type 0) → P 0 → P 1 → P 2 → P 3 → (j : ℕ) → j < 4 → P j

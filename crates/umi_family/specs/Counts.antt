@@ -5,15 +5,11 @@ use mathlib.Core.List.{List}
 use mathlib.Core.Logic.{_≢_}
 use Prim.Native.Nat.{ℕ, _+_, _≤_, _<_}
 use lib.Dec.{eqb}
-use lib.Ieee.{Float}
 use lib.ListN.{length, getD}
 use Rattle.float.specs.Ops.{if_then_else_}
 use Rattle.lent_bytes.specs.Lists.{byteAt}
-use Rattle.tie_rules.specs.declared.tie_rule.TieRule.the-variants.{FgbioCompat}
 use Rattle.tie_rules.specs.Lanes.{laneOfByte}
-use Rattle.tie_rules.specs.Ties.{uniqueMaxIndexWith}
-use Rattle.umi_column.specs.Sums.{noSums, summedAll}
-use Rattle.umi_column.specs.Counts.{countOf, Leads}
+use Rattle.umi_column.specs.Counts.{countOf}
 use Rattle.umi_family.specs.Rows.{bytesAt}
 
 -- 1 for either letter, and 0 for any other byte
@@ -44,7 +40,3 @@ CountsOf i w s ps counts = (k : ℕ) → k < w → byteAt counts k ≡ countOf i
 -- of four counts that of lane i is above each other
 abbrev pub Above : List ℕ → ℕ → Type 0
 Above counts i = (j : ℕ) → j < 4 → j ≢ i → getD counts j 0 < getD counts i 0
-
--- the sums by this window name the lane that was observed more often than each other
-abbrev pub Faithful : List Float → Type 0
-Faithful window = (column : List ℕ) → length column ≤ 255 → (i : ℕ) → i < 4 → Leads column i → uniqueMaxIndexWith (summedAll window column noSums .likelihoods) FgbioCompat ≡ i

@@ -9,6 +9,7 @@ use Rattle.lent_bytes.specs.Lists.{any, lastOr, byteAt}
 use Rattle.refusals.specs.declared.Refusal.the-variants.{CutOff, NotAscii}
 use Rattle.refusals.specs.declared.Verdict.{Verdict}
 use Rattle.refusals.specs.declared.Verdict.the-variants.{Refused}
+use Rattle.refusals.specs.Refusals.{verdictNumber}
 use Rattle.refusals.specs.Result.{firstRefused}
 use Rattle.tie_rules.specs.declared.tie_rule.TieRule.{TieRule}
 use Rattle.rate_tables.specs.declared.adjusted.AdjustedEntry.{AdjustedEntry}
@@ -26,11 +27,17 @@ verdictWithin w s ps =
     if any (any isHigh) (rowsAt w s ps) then Refused NotAscii
     else firstRefused verdictOf (columnsAt w s ps)
 
--- of any: first that they do not
+-- of any. What is said of strings that do not lie in the set, and of no places at all, is free, as document 01 has no such list: here it is 2
 unfoldable pub verdictAt : ℕ → List ℕ → List ℕ → Verdict
 verdictAt w s ps =
     if fitting w s ps then verdictWithin w s ps
     else Refused CutOff
+
+-- its number: 7, that of the first faulty column, or 0 where nothing is refused; and 2 where it is free
+unfoldable pub verdictNumberAt : ℕ → List ℕ → List ℕ → ℕ
+verdictNumberAt w s ps =
+    if fitting w s ps then (if any (any isHigh) (rowsAt w s ps) then 7 else verdictNumber (firstRefused verdictOf (columnsAt w s ps)))
+    else 2
 
 -- the builder after a column, from one after a reset
 abbrev pub builderBy : AdjustedEntry → ConsensusBaseBuilder → List ℕ → ConsensusBaseBuilder
@@ -52,13 +59,13 @@ bytesSummed window rule columns = map (byteSummed window rule) columns
 abbrev pub lastBy : AdjustedEntry → ConsensusBaseBuilder → List (List ℕ) → ConsensusBaseBuilder
 lastBy e b columns = lastOr b (map (builderBy e b) columns)
 
--- the text afterwards: a byte for each column of strings that lie in the set
+-- the text afterwards: a byte for each column of strings that lie in the set. For others it is free: here it is left as it was
 unfoldable pub textAt : AdjustedEntry → ConsensusBaseBuilder → List ℕ → List ℕ → List ℕ → List ℕ
 textAt e b s ps text =
     if fitting (length text) s ps then bytesBy e b (columnsAt (length text) s ps)
     else text
 
--- whether one of them differs from it, and the builder after the last column
+-- whether one of them differs from it, and the builder after the last column. For others both are free: here false, and the builder as it was
 unfoldable pub calledAt : AdjustedEntry → ConsensusBaseBuilder → List ℕ → List ℕ → List ℕ → Called
 calledAt e b s ps text =
     if fitting (length text) s ps then

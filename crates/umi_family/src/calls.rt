@@ -13,7 +13,8 @@ pub struct Called {
     pub builder: ConsensusBaseBuilder,
 }
 
-// Each column's byte into the text. Strings that do not lie in the set leave it and the builder.
+// Each column's byte into the text. What strings that do not lie in the set give, and no places, is free:
+// they leave the text and the builder.
 pub fn call_family(
     builder: ConsensusBaseBuilder,
     entry: AdjustedEntry,

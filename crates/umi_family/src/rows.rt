@@ -8,13 +8,13 @@ ghost use Rattle.umi_family.specs.Rows.{fitting, Fits, rowsAt, isHigh, d
 use lent_bytes::same_bytes;
 use umi_column::is_dna_base;
 
-fn follow(place: usize, width: usize, length: usize) -> bool
-    ensures { λ r. ⌜ r ≡ leb (place + 1 + width) length ⌝ }
+fn follow(place: usize, width: usize, size: usize) -> bool
+    ensures { λ r. ⌜ r ≡ leb (place + 1 + width) size ⌝ }
 {
-    if length <= place {
+    if size <= place {
         return false;
     }
-    if length - place - 1 < width {
+    if size - place - 1 < width {
         return false;
     }
     true

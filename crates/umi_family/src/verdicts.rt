@@ -2,10 +2,11 @@
 ghost use mathlib.Core.Path.{_≡_};
 ghost use mathlib.Core.Bool.{true};
 ghost use Rattle.refusals.specs.declared.Verdict.the-variants.{Sound};
+ghost use Rattle.refusals.specs.Refusals.{verdictNumber};
 ghost use Rattle.refusals.specs.Result.{firstRefused};
 ghost use Rattle.umi_column.specs.Verdicts.{verdictOf};
 ghost use Rattle.umi_family.specs.Rows.{Fits, columnsAt};
-ghost use Rattle.umi_family.specs.Family.{verdictWithin, verdictAt};
+ghost use Rattle.umi_family.specs.Family.{verdictWithin, verdictAt, verdictNumberAt};
 use crate::columns::gather;
 use crate::rows::any_high;
 use crate::rows::fit;
@@ -46,9 +47,11 @@ fn columns_verdict(set: &[u8], places: &[usize], width: usize) -> Verdict
     Verdict::Sound
 }
 
-// Of strings of a width after these places. Those that do not lie in the set are refused.
+// Of strings of a width after these places. What is said of strings that do not lie in the set, and of no
+// places, is free: they are refused as cut off.
 pub fn family_verdict(set: &[u8], places: &[usize], width: usize) -> Verdict
-    ensures { λ r. ⌜ r ≡ verdictAt width (now (set .entry)) (now (places .entry)) ⌝ }
+    ensures verdict { λ r. ⌜ r ≡ verdictAt width (now (set .entry)) (now (places .entry)) ⌝ }
+    ensures number { λ r. ⌜ verdictNumber r ≡ verdictNumberAt width (now (set .entry)) (now (places .entry)) ⌝ }
 {
     if !fit(set, places, width) {
         return Verdict::Refused(Refusal::CutOff);

@@ -21,11 +21,11 @@ fn flag(b: bool) -> u64
 }
 
 // The length of the string and two flags in one number, above every refusal's.
-fn given(length: usize, a: bool, b: bool) -> u64
-    requires { ⌜ length ≤ 255 ⌝ }
-    ensures { λ r. ⌜ r ≡ givenCode length a b ⌝ }
+fn given(n: usize, a: bool, b: bool) -> u64
+    requires { ⌜ n ≤ 255 ⌝ }
+    ensures { λ r. ⌜ r ≡ givenCode n a b ⌝ }
 {
-    256 + 4 * (length as u64) + 2 * flag(b) + flag(a)
+    256 + 4 * (n as u64) + 2 * flag(b) + flag(a)
 }
 
 pub(crate) fn answer_code(answer: Answer) -> u64

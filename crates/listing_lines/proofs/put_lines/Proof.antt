@@ -36,7 +36,7 @@ inside c =
     let l = c .before .before .before .before .before .loop in
     let a = c .before .before .before .before .before .before .before .before .args in
     let n = c .before .next .given in
-    column-fits (a .file .now) (l .column) (n .0 .0) (n .0 .1 .0) (sym (c .before .before .before .column-at .ensures) ∙ n .1)
+    column-fits (a .file .now) (l .column) (n .0 .0) (n .0 .1 .0) (sym (c .before .before .before .column-at .ensures .0) ∙ n .1)
 
 loop-holds : tie.Need-loop-holds Inv-loop μ-loop
 loop-holds c =
@@ -62,7 +62,7 @@ returns c =
     let l = at-loop .loop in
     let a = at-loop .before .before .before .args in
     let g = tablesOf (a .thresholds .now) (a .cerr-min .now) (a .cap) in
-    let e = sym (c .before .before .column-at .ensures) ∙ c .enum-told .given .1 in
+    let e = sym (c .before .before .column-at .ensures .0) ∙ c .enum-told .given .1 in
     printed-as (l .inv .2) (no-more (l .inv .1) _ _ (lines-past (a .rows .now) g (a .start) (a .file .now) (l .column) (a .count - l .number) (l .number + 1) e) (l .inv .3))
 
 mul-end : tie.Need-mul-end Inv-loop μ-loop
@@ -110,7 +110,7 @@ loop-again c =
     let g = tablesOf (a .thresholds .now) (a .cerr-min .now) (a .cap) in
     let end = n .0 .0 + 2 * n .0 .1 .0 in
     let line = lineWith g (l .number + 1) (allAdded (a .rows .now) (a .start) (take (end - n .0 .0) (drop (n .0 .0) s))) (n .0 .1 .0) in
-    let e = sym (at-next .before .before .column-at .ensures) ∙ n .1 in
+    let e = sym (at-next .before .before .column-at .ensures .0) ∙ n .1 in
     let d : a .count - (l .number + 1) ≡ a .count - l .number - 1 = omega arith in
     let p : Printed (l .out) (l .place) line (put .put-line .last .0) (put .put-line .result) =
     rw (← built .add-observations .ensures, ← called .call-with .ensures) (put .put-line .ensures) in (

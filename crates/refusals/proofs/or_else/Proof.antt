@@ -1,5 +1,6 @@
 -- `or_else`: by what the first says. Assumes nothing.
 use borrow.Author.Needs.{needs}
+use Rattle.refusals.proofs.Numbers.{or-else-said}
 use Rattle.refusals.proofs.or_else.Statement.{statement}
 use Rattle.refusals.proofs.or_else.Tie as tie
 
@@ -10,10 +11,10 @@ enum-told : tie.Need-enum-told
 enum-told c = search needs
 
 returns : tie.Need-returns
-returns c = rw (c .before .first .given .1)
+returns c = let a = c .before .before .before .args in or-else-said (a .first) (a .second) _ (rw (c .before .first .given .1))
 
 returns-2 : tie.Need-returns-2
-returns-2 c = search needs
+returns-2 c = let a = c .before .before .args in or-else-said (a .first) (a .second) _ (rw (c .enum-told .given .1))
 
 pub or-else-spec : {M : Type 1} → statement M
 or-else-spec = tie.close (tie.spec enum-known-first enum-told returns returns-2)

@@ -32,7 +32,7 @@ inside c =
     let a = c .before .before .before .before .before .before .before .args in
     let n = c .before .next .given in
     let r = c .before .before .before .column-at in
-    column-inside (a .file .now) (l .place) (r .result) (r .ensures) (n .0 .0) (n .0 .1 .0) (n .1)
+    column-inside (a .file .now) (l .place) (r .result) (r .ensures .0) (n .0 .0) (n .0 .1 .0) (n .1)
 
 loop-holds : tie.Need-loop-holds Inv-loop μ-loop
 loop-holds c = (refl, search needs)
@@ -51,7 +51,7 @@ returns c =
     let l = c .before .before .before .before .loop in
     let a = c .before .before .before .before .before .before .args in
     let g = tablesOf (a .thresholds .now) (a .cerr-min .now) (a .cap) in
-    let e = sym (c .before .before .column-at .ensures) ∙ c .enum-told .given .1 in
+    let e = sym (c .before .before .column-at .ensures .0) ∙ c .enum-told .given .1 in
     all-added (l .total) _ _ (2 ^ 64) (l .inv .1) (turned-past (a .rows .now) g (a .start) (a .file .now) (l .place) (l .left) e) (l .inv .0)
 
 mul-end : tie.Need-mul-end Inv-loop μ-loop
@@ -97,7 +97,7 @@ loop-again c =
     let n = at-next .next .given in
     let s = a .file .now in
     let g = tablesOf (a .thresholds .now) (a .cerr-min .now) (a .cap) in
-    let e = sym (at-next .before .before .column-at .ensures) ∙ n .1 in
+    let e = sym (at-next .before .before .column-at .ensures .0) ∙ n .1 in
     let more = amountOf (callOf g (allAdded (a .rows .now) (a .start) (take (n .0 .0 + 2 * n .0 .1 .0 - n .0 .0) (drop (n .0 .0) s)))) in (
       rw (c .wrapping-add-u64 .ensures, c .before .amount .ensures, c .before .before .call-with .ensures, at-built .add-observations .ensures)
           (wrapped (l .total) more _ (2 ^ 64)

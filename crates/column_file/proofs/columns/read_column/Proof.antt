@@ -17,7 +17,7 @@ inside : (c : tie.After-known-told)
 inside c =
     let s = c .before .before .before .before .before .before .args .part .now in
     let r = c .before .before .before .column-at in
-    column-inside s 0 (r .result) (r .ensures) _ _ (c .before .place .given .1)
+    column-inside s 0 (r .result) (r .ensures .0) _ _ (c .before .place .given .1)
 
 returns : tie.Need-returns
 returns c = column-said _ _ (ap columnReadingOf (sym (read-long _ (c .if1 .taken))))
@@ -35,7 +35,7 @@ returns-2 : tie.Need-returns-2
 returns-2 c =
     let s = c .before .before .before .before .before .args .part .now in
     let r = c .before .before .column-at in
-    column-said s _ (ap columnReadingOf (sym (read-cut s (omega arith) (column-none s 0 (r .result) (r .ensures) (c .enum-told .given .1)))))
+    column-said s _ (ap columnReadingOf (sym (read-cut s (omega arith) (column-none s 0 (r .result) (r .ensures .0) (c .enum-told .given .1)))))
 
 mul-if2 : tie.Need-mul-if2
 mul-if2 c = omega (arith, inside c)
@@ -47,7 +47,7 @@ returns-3 : tie.Need-returns-3
 returns-3 c =
     let s = c .before .before .before .before .before .before .before .args .part .now in
     let r = c .before .before .before .before .column-at in
-    let is = column-is s 0 (r .result) (r .ensures) _ _ (c .before .before .place .given .1) in
+    let is = column-is s 0 (r .result) (r .ensures .0) _ _ (c .before .before .place .given .1) in
     column-said s _ (ap columnReadingOf (sym (read-left s (omega arith) _ _ is (c .if2 .taken))))
 
 column-verdict-requires : tie.Need-column-verdict-requires
@@ -65,7 +65,7 @@ returns-4 c =
     let r = c .before .before .before .before .before .before .before .before .column-at in
     let start = c .before .before .before .before .before .before .place .given .0 .0 in
     let n = c .before .before .before .before .before .before .place .given .0 .1 .0 in
-    let is = column-is s 0 (r .result) (r .ensures) start n (c .before .before .before .before .before .before .place .given .1) in
+    let is = column-is s 0 (r .result) (r .ensures .0) start n (c .before .before .before .before .before .before .place .given .1) in
     let bad = sym (c .before .before .before .column-verdict .ensures) ∙ c .before .verdict .given .1 in
     column-said s _ (ap columnReadingOf (sym (read-refused s (omega arith) (observationsAt s start n) (start + 2 * n) is (omega arith) _ bad)))
 
@@ -75,7 +75,7 @@ returns-5 c =
     let r = c .before .before .before .before .before .before .before .column-at in
     let start = c .before .before .before .before .before .place .given .0 .0 in
     let n = c .before .before .before .before .before .place .given .0 .1 .0 in
-    let is = column-is s 0 (r .result) (r .ensures) start n (c .before .before .before .before .before .place .given .1) in
+    let is = column-is s 0 (r .result) (r .ensures .0) start n (c .before .before .before .before .before .place .given .1) in
     let sound = sym (c .before .before .column-verdict .ensures) ∙ c .enum-told2 .given .1 in
     column-said s _ (rw (read-sound s (omega arith) (observationsAt s start n) (start + 2 * n) is (omega arith) sound, observations-length s start n))
 

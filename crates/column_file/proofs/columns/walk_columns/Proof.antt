@@ -27,7 +27,7 @@ inside : (c : tie.After-known-told Inv-loop μ-loop)
 inside c =
     let s = c .before .before .before .before .before .before .before .args .file .now in
     let r = c .before .before .before .column-at in
-    column-inside s (c .before .before .before .before .before .loop .place) (r .result) (r .ensures) _ _ (c .before .start .given .1)
+    column-inside s (c .before .before .before .before .before .loop .place) (r .result) (r .ensures .0) _ _ (c .before .start .given .1)
 
 loop-holds : tie.Need-loop-holds Inv-loop μ-loop
 loop-holds c = (omega arith, refl)
@@ -43,7 +43,7 @@ returns c =
     let l = c .before .before .before .before .loop in
     let s = c .before .before .before .before .before .before .args .file .now in
     let r = c .before .before .column-at in
-    let none = column-none s (l .place) (r .result) (r .ensures) (c .enum-told .given .1) in
+    let none = column-none s (l .place) (r .result) (r .ensures .0) (c .enum-told .given .1) in
     sym (walk-cut s (l .place) (l .verdict) (l .left) (omega arith) none) ∙ l .inv .1
 
 enum-known-start : tie.Need-enum-known-start Inv-loop μ-loop
@@ -76,10 +76,10 @@ loop-again c =
     let start = d .before .start .given .0 .0 in
     let k = d .before .start .given .0 .1 .0 in
     let e = d .before .start .given .1 in
-    let is = column-is s (l .place) (r .result) (r .ensures) start k e in
-    let at = column-start s (l .place) (r .result) (r .ensures) start k e in
+    let is = column-is s (l .place) (r .result) (r .ensures .0) start k e in
+    let at = column-start s (l .place) (r .result) (r .ensures .0) start k e in
     let v : c .or-else .result ≡ orElse (l .verdict) (columnVerdict (observationsAt s start k)) =
-    c .or-else .ensures ∙ ap (orElse (l .verdict)) (c .before .column-verdict .ensures) in
+    c .or-else .ensures .0 ∙ ap (orElse (l .verdict)) (c .before .column-verdict .ensures) in
     (inside d, rw v (walk-more s (l .place) (l .verdict) (l .left) (omega arith) start k at is ∙ l .inv .1))
 
 returns-2 : tie.Need-returns-2 Inv-loop μ-loop

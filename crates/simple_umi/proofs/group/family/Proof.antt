@@ -30,7 +30,7 @@ returns c =
     let a = s .args in
     let v = c .before .before .before .before .family-verdict in
     let r = c .refused-group2 in (
-      family-short (a .caller) (a .width) (a .set .now) (a .places .now) (a .out .now) (s .pre .1) (v .result) (v .ensures) (c .before .before .enum-told .given .1) (c .before .if1 .taken)
+      family-short (a .caller) (a .width) (a .set .now) (a .places .now) (a .out .now) (s .pre .1) (v .result) (v .ensures .0) (c .before .before .enum-told .given .1) (c .before .if1 .taken)
           (r .result) (r .ensures .0),
       r .ensures .1,
     )
@@ -54,7 +54,7 @@ returns-2 c =
     let a = s .args in
     let v = c .before .before .before .before .family-verdict in
     let r = c .refused-group in (
-      family-refused (a .caller) (a .width) (a .set .now) (a .places .now) (a .out .now) (s .pre .1) (v .result) (v .ensures) _ (c .before .before .r .given .1) (r .result) (r .ensures .0),
+      family-refused (a .caller) (a .width) (a .set .now) (a .places .now) (a .out .now) (s .pre .1) (v .result) (v .ensures .0) _ (c .before .before .r .given .1) (r .result) (r .ensures .0),
       r .ensures .1,
     )
 
@@ -72,7 +72,7 @@ returns-3 c =
     let found =
     called-found (a .caller) (e .result) (e .ensures .0) (e .ensures .1) (a .width) (a .set .now) (a .places .now) (take (a .width) (a .out .now)) size (s .pre .1)
     (k .result) (k .ensures .0) _ (k .ensures .1) in (
-      family-given (a .caller) (a .width) (a .set .now) (a .places .now) (a .out .now) (s .pre .1) (v .result) (v .ensures) (c .before .before .before .before .before .before .before .before .before .enum-told .given .1) (c .before .before .before .before .before .before .before .before .if1 .left) _ found,
+      family-given (a .caller) (a .width) (a .set .now) (a .places .now) (a .out .now) (s .pre .1) (v .result) (v .ensures .0) (c .before .before .before .before .before .before .before .before .before .enum-told .given .1) (c .before .before .before .before .before .before .before .before .if1 .left) _ found,
       s .pre .0,
     )
 

@@ -2,12 +2,12 @@
 use mathlib.Core.Path.{sym, _∙_}
 use native.Mathlib.Omega.{arith}
 use borrow.Author.Needs.{needs}
-use Rattle.umi_column.proofs.ColumnVerdicts.{none-sound, unlike-refused, first-dna-sound, mixed-refused, no-dna-sound}
+use Rattle.umi_column.proofs.ColumnVerdicts.{none-sound, unlike-refused, first-dna-sound, mixed-refused, no-dna-sound, verdict-said}
 use Rattle.umi_column.proofs.verdicts.column_verdict.Statement.{statement}
 use Rattle.umi_column.proofs.verdicts.column_verdict.Tie as tie
 
 returns : tie.Need-returns
-returns c = sym (none-sound _ (c .if1 .taken))
+returns c = verdict-said _ _ (sym (none-sound _ (c .if1 .taken)))
 
 shared-slice-read-first : tie.Need-shared-slice-read-first
 shared-slice-read-first c = search needs
@@ -16,7 +16,7 @@ any-unlike-requires : tie.Need-any-unlike-requires
 any-unlike-requires c κs = search needs
 
 returns-2 : tie.Need-returns-2
-returns-2 c = sym (unlike-refused _ (sym (c .before .any-unlike .ensures) ∙ c .if2 .taken))
+returns-2 c = verdict-said _ _ (sym (unlike-refused _ (sym (c .before .any-unlike .ensures) ∙ c .if2 .taken)))
 
 is-dna-base-requires : tie.Need-is-dna-base-requires
 is-dna-base-requires c κs = search needs
@@ -24,7 +24,7 @@ is-dna-base-requires c κs = search needs
 returns-3 : tie.Need-returns-3
 returns-3 c =
     let b = c .before .before in
-    sym (first-dna-sound _ (sym (b .before .any-unlike .ensures) ∙ b .if2 .left) (sym (c .before .is-dna-base .ensures) ∙ c .if3 .taken))
+    verdict-said _ _ (sym (first-dna-sound _ (sym (b .before .any-unlike .ensures) ∙ b .if2 .left) (sym (c .before .is-dna-base .ensures) ∙ c .if3 .taken)))
 
 any-dna-requires : tie.Need-any-dna-requires
 any-dna-requires c κs = search needs
@@ -33,13 +33,14 @@ returns-4 : tie.Need-returns-4
 returns-4 c =
     let d = c .before .before in
     let b = d .before .before in
-    sym (mixed-refused _ (sym (b .before .any-unlike .ensures) ∙ b .if2 .left) (omega arith) (sym (d .before .is-dna-base .ensures) ∙ d .if3 .left)
-    (sym (c .before .any-dna .ensures) ∙ c .if4 .taken))
+    verdict-said _ _
+    (sym (mixed-refused _ (sym (b .before .any-unlike .ensures) ∙ b .if2 .left) (omega arith) (sym (d .before .is-dna-base .ensures) ∙ d .if3 .left)
+    (sym (c .before .any-dna .ensures) ∙ c .if4 .taken)))
 
 returns-5 : tie.Need-returns-5
 returns-5 c =
     let b = c .before .before .before .before in
-    sym (no-dna-sound _ (sym (b .before .any-unlike .ensures) ∙ b .if2 .left) (sym (c .before .any-dna .ensures) ∙ c .if4 .left))
+    verdict-said _ _ (sym (no-dna-sound _ (sym (b .before .any-unlike .ensures) ∙ b .if2 .left) (sym (c .before .any-dna .ensures) ∙ c .if4 .left)))
 
 pub column-verdict-spec : {M : Type 1} → statement M
 column-verdict-spec =

@@ -1,6 +1,6 @@
 -- `call_others`: by counts, where the sums name the lane that leads, and by sums. Assumes nothing.
 use borrow.Author.Needs.{needs}
-use Rattle.umi_family.proofs.ByCounts.{faithful}
+use Rattle.umi_count_laws.proofs.Named.{named-by-counts}
 use Rattle.umi_family.proofs.columns.call_others.Statement.{statement}
 use Rattle.umi_family.proofs.columns.call_others.Tie as tie
 
@@ -15,7 +15,7 @@ call-counted-requires c κs =
     let d = c .before .before .before in
     let s = d .before .before .before .before .before .before in
     let so = d .counts-decide .ensures (c .before .before .if2 .taken) in
-    (rw (d .before .before .window-of .ensures) (faithful (s .args .correct) (s .args .error-per-alt) (so .1)), s .pre, d .before .if1 .taken)
+    (rw (d .before .before .window-of .ensures) (named-by-counts (s .args .correct) (s .args .error-per-alt) (so .1)), s .pre, d .before .if1 .taken)
 
 same-length : tie.Need-same-length
 same-length c = search needs

@@ -8,7 +8,7 @@ use Rattle.umi_family.proofs.rows.follow.Statement.{statement}
 use Rattle.umi_family.proofs.rows.follow.Tie as tie
 
 returns : tie.Need-returns
-returns c = let a = c .before .args in sym (lt-leb (a .place + 1 + a .width) (a .length) (omega arith))
+returns c = let a = c .before .args in sym (lt-leb (a .place + 1 + a .width) (a .size) (omega arith))
 
 sub-if2 : tie.Need-sub-if2
 sub-if2 c = search needs
@@ -17,10 +17,10 @@ sub-if2-2 : tie.Need-sub-if2-2
 sub-if2-2 c = search needs
 
 returns-2 : tie.Need-returns-2
-returns-2 c = let a = c .before .before .args in sym (lt-leb (a .place + 1 + a .width) (a .length) (omega arith))
+returns-2 c = let a = c .before .before .args in sym (lt-leb (a .place + 1 + a .width) (a .size) (omega arith))
 
 returns-3 : tie.Need-returns-3
-returns-3 c = let a = c .before .before .args in sym (le-leb (a .place + 1 + a .width) (a .length) (omega arith))
+returns-3 c = let a = c .before .before .args in sym (le-leb (a .place + 1 + a .width) (a .size) (omega arith))
 
 pub follow-spec : {M : Type 1} → statement M
 follow-spec = tie.close (tie.spec returns sub-if2 sub-if2-2 returns-2 returns-3)

@@ -52,7 +52,7 @@ returns c =
     let size : length cs ≡ a .width = columns-length (a .width) (a .set .now) (a .places .now) in
     let here = column-at (a .width) (a .set .now) (a .places .now) at (omega arith) ∙ sym (g .ensures) in
     let v = c .before .before .before .column-verdict in
-    refusal-found cs at (omega arith) _ (ap verdictOf here ∙ sym (v .ensures) ∙ c .before .r .given .1) ∙ o .loop .inv .1
+    refusal-found cs at (omega arith) _ (ap verdictOf here ∙ sym (v .ensures .0) ∙ c .before .r .given .1) ∙ o .loop .inv .1
 
 enum-told : tie.Need-enum-told Inv-loop μ-loop
 enum-told c = search needs
@@ -73,7 +73,7 @@ loop-again c =
     let size : length cs ≡ a .width = columns-length (a .width) (a .set .now) (a .places .now) in
     let here = column-at (a .width) (a .set .now) (a .places .now) at (omega arith) ∙ sym (g .ensures) in
     let v = c .before .before .column-verdict in
-    (omega arith, refusal-more cs at (omega arith) (ap verdictOf here ∙ sym (v .ensures) ∙ c .enum-told .given .1) ∙ o .loop .inv .1)
+    (omega arith, refusal-more cs at (omega arith) (ap verdictOf here ∙ sym (v .ensures .0) ∙ c .enum-told .given .1) ∙ o .loop .inv .1)
 
 returns-2 : tie.Need-returns-2 Inv-loop μ-loop
 returns-2 c =
