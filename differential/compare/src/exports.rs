@@ -1,6 +1,7 @@
 //! What the static library `exports` defines.
 
 use crate::builder::Settings;
+use crate::builder::sides::Way;
 use crate::umis::function::Rates;
 
 unsafe extern "C" {
@@ -32,6 +33,24 @@ unsafe extern "C" {
         out: *mut u8,
         length: usize,
     ) -> u64;
+    fn consensus_history_by_value(
+        pre: u8,
+        post: u8,
+        rule: u8,
+        script: *const u8,
+        script_length: usize,
+        out: *mut u8,
+        length: usize,
+    ) -> u64;
+    fn consensus_history_lent(
+        pre: u8,
+        post: u8,
+        rule: u8,
+        script: *const u8,
+        script_length: usize,
+        out: *mut u8,
+        length: usize,
+    ) -> u64;
     fn consensus_builder(
         pre: u8,
         post: u8,
@@ -40,6 +59,12 @@ unsafe extern "C" {
         state_length: usize,
         script: *const u8,
         script_length: usize,
+        out: *mut u8,
+        length: usize,
+    ) -> u64;
+    fn consensus_observations(
+        state: *const u8,
+        state_length: usize,
         out: *mut u8,
         length: usize,
     ) -> u64;
@@ -69,8 +94,19 @@ unsafe extern "C" {
         out: *mut u8,
         length: usize,
     ) -> u64;
+    fn consensus_umi_sets(
+        pre: u8,
+        post: u8,
+        quality: u8,
+        which: u8,
+        sets: *const u8,
+        sets_length: usize,
+        out: *mut u8,
+        length: usize,
+    ) -> u64;
 
     fn consensus_list(file: *const u8, file_length: usize, out: *mut u8, length: usize) -> u64;
+    fn consensus_listing(file: *const u8, file_length: usize, out: *mut u8, length: usize) -> u64;
     fn consensus_calls(file: *const u8, file_length: usize, times: u32) -> u64;
 }
 
@@ -89,14 +125,18 @@ pub fn tables(pre: u8, post: u8, out: &mut [u8]) -> u64 {
     unsafe { consensus_tables(pre, post, out.as_mut_ptr(), out.len()) }
 }
 
-/// `consensus_history` of a script.
-pub fn history(settings: Settings, script: &[u8], out: &mut [u8]) -> u64 {
+/// `consensus_history` of a script, or one of the two that go another way.
+pub fn history(way: Way, settings: Settings, script: &[u8], out: &mut [u8]) -> u64 {
     let Settings { pre, post, rule } = settings;
     let (script, script_length) = (script.as_ptr(), script.len());
+    let (out, length) = (out.as_mut_ptr(), out.len());
+    let function = match way {
+        Way::Borrowed => consensus_history,
+        Way::ByValue => consensus_history_by_value,
+        Way::Lent => consensus_history_lent,
+    };
     // SAFETY: as above.
-    unsafe {
-        consensus_history(pre, post, rule, script, script_length, out.as_mut_ptr(), out.len())
-    }
+    unsafe { function(pre, post, rule, script, script_length, out, length) }
 }
 
 /// `consensus_builder` of a state and a script.
@@ -109,6 +149,13 @@ pub fn builder(settings: Settings, state: &[u8], script: &[u8], out: &mut [u8]) 
     unsafe {
         consensus_builder(pre, post, rule, state, state_length, script, script_length, out, length)
     }
+}
+
+/// `consensus_observations` of a state.
+pub fn observations(state: &[u8], out: &mut [u8]) -> u64 {
+    let (state, state_length) = (state.as_ptr(), state.len());
+    // SAFETY: as above.
+    unsafe { consensus_observations(state, state_length, out.as_mut_ptr(), out.len()) }
 }
 
 /// `consensus_history_times` of a script.
@@ -134,11 +181,27 @@ pub fn umi_caller(rates: Rates, which: u8, set: &[u8], out: &mut [u8]) -> u64 {
     unsafe { consensus_umi_caller(pre, post, quality, which, set, set_length, out, length) }
 }
 
+/// `consensus_umi_sets` of sets in a row.
+pub fn umi_sets(rates: Rates, which: u8, sets: &[u8], out: &mut [u8]) -> u64 {
+    let Rates { pre, post, quality } = rates;
+    let (sets, sets_length) = (sets.as_ptr(), sets.len());
+    let (out, length) = (out.as_mut_ptr(), out.len());
+    // SAFETY: as above.
+    unsafe { consensus_umi_sets(pre, post, quality, which, sets, sets_length, out, length) }
+}
+
 /// `consensus_list` of a column file.
 pub fn list(file: &[u8], out: &mut [u8]) -> u64 {
     let (file, file_length) = (file.as_ptr(), file.len());
     // SAFETY: as above.
     unsafe { consensus_list(file, file_length, out.as_mut_ptr(), out.len()) }
+}
+
+/// `consensus_listing` of a column file.
+pub fn listing(file: &[u8], out: &mut [u8]) -> u64 {
+    let (file, file_length) = (file.as_ptr(), file.len());
+    // SAFETY: as above.
+    unsafe { consensus_listing(file, file_length, out.as_mut_ptr(), out.len()) }
 }
 
 /// `consensus_calls` of a column file.

@@ -2,6 +2,7 @@
 
 pub mod columns;
 pub mod tally;
+mod ways;
 
 use self::columns::{KINDS, Observation, drawn_kind};
 use self::tally::{Place, Tally};
@@ -44,7 +45,9 @@ fn compare(drawn: &Drawn, tally: &mut Tally) {
     for (kind, depth) in &drawn.columns {
         tally.count_column(*kind, *depth);
     }
-    let rust = run.rust();
+    let rust =
+        run.rust_seen(|builder, report| tally.observed.compare(builder, report, drawn.settings));
+    tally.ways.compare(&run, &drawn.places, &rust);
     let ours = match run.ours(drawn.script.reports) {
         Ok(ours) => ours,
         Err(problem) => return tally.count_failed(&run, &drawn.places, problem),

@@ -1,9 +1,10 @@
 //! One script again, both sides' reports field by field.
 
 use crate::builder::cause::causes;
+use crate::builder::observed::Observed;
 use crate::builder::report::{Field, Report, STATE_BYTES};
 use crate::builder::script::{ADD, Event, REPORT, RESET, RULE, events, rules_at_reports};
-use crate::builder::sides::{Run, StateBytes};
+use crate::builder::sides::{Run, StateBytes, Way};
 use crate::builder::{RULES, Settings, rule_of};
 use crate::hexadecimal::bytes;
 use crate::table::Table;
@@ -38,7 +39,9 @@ impl Again {
     /// Prints the reports, and says whether they are the same.
     pub fn run(&self) -> bool {
         let run = Run { settings: self.settings, state: self.state.as_ref(), script: &self.script };
-        let rust = run.rust();
+        let mut observed = Observed::default();
+        let rust =
+            run.rust_seen(|builder, report| observed.compare(builder, report, self.settings));
         let ours = match run.ours(rust.len()) {
             Ok(ours) => ours,
             Err(problem) => {
@@ -54,12 +57,28 @@ impl Again {
                 println!("cause: {}", cause.name());
             }
         }
-        let same = ours == rust;
+        observed.example.iter().for_each(|example| println!("{example}"));
+        let ways_are_same = self.ways_are_same(&run, &rust);
+        let same = ours == rust && observed.differing == 0 && ways_are_same;
         println!(
             "history: {} reports, {}",
             rust.len(),
             if same { "the same" } else { "DIFFERENT" }
         );
+        same
+    }
+
+    /// Prints which of the other ways to the reports on a new builder leads elsewhere, and says
+    /// whether none does.
+    fn ways_are_same(&self, run: &Run, rust: &[Report]) -> bool {
+        let differs = |way: &Way| {
+            self.state.is_none() && run.ours_by(*way, rust.len()).ok().as_deref() != Some(rust)
+        };
+        let mut same = true;
+        for way in Way::OTHERS.into_iter().filter(differs) {
+            println!("history: DIFFERENT by {}", way.name());
+            same = false;
+        }
         same
     }
 }

@@ -1,6 +1,7 @@
 //! UMI sets, ours beside the Rust's: strings, flags, refusals, and the caller's builder afterwards.
 
 pub mod call;
+mod characters;
 pub mod condition;
 mod damaged;
 mod exhaustive;
@@ -14,15 +15,20 @@ mod rates;
 mod rooms;
 pub mod row;
 pub mod rust;
+pub mod sequences;
 pub mod tally;
 
 use self::families::{FULL, KINDS, shape};
 use self::row::Row;
+use self::sequences::Sequences;
 use crate::environment;
 use crate::random::Random;
 
 /// How many sets of each kind are 255 strings of 255 bytes.
 const FULL_OF_A_KIND: usize = 3;
+
+/// One sequence of sets on one caller is drawn for so many sets that are asked for.
+const SETS_FOR_A_SEQUENCE: u64 = 5;
 
 /// Compares so many drawn sets besides the fixed ones, prints tables, and says whether nothing
 /// differs and every reply occurred.
@@ -35,7 +41,9 @@ pub fn run(sets: u64, seed: u64) -> bool {
     rows.extend(drawn(sets, &mut random));
     rows.push(damaged::row(sets, &mut random));
     rows.push(rooms::row(sets, &mut random));
-    let holds = tally::print(&rows);
+    let mut sequences = Sequences::default();
+    sequences.compare_all(sets / SETS_FOR_A_SEQUENCE, &mut random);
+    let holds = [tally::print(&rows), sequences.print(), characters::print()] == [true; 3];
     println!("umis: {}", if holds { "as demanded" } else { "FAILED" });
     holds
 }

@@ -8,9 +8,10 @@ pub mod accessors {
         SimpleUmiConsensusCaller { caller }
     }
 
+    /// The caller in a wrapper.
     #[must_use]
-    pub fn builder(caller: &SimpleConsensusCaller) -> &ConsensusBaseBuilder {
-        &caller.builder
+    pub fn inner(caller: &mut SimpleUmiConsensusCaller) -> &mut SimpleConsensusCaller {
+        &mut caller.caller
     }
 
     #[must_use]

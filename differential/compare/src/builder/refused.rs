@@ -1,8 +1,9 @@
 //! Arguments that are refused: nothing is written, and the answer is 0.
 
-use super::Settings;
 use super::report::{BYTES, STATE_BYTES};
 use super::script::{ADD, REPORT, RULE};
+use super::sides::Way;
+use super::{Settings, observed};
 use crate::exports;
 
 const SETTINGS: Settings = Settings { pre: 45, post: 40, rule: 0 };
@@ -10,65 +11,91 @@ const SETTINGS: Settings = Settings { pre: 45, post: 40, rule: 0 };
 /// A script with nothing wrong in it, and one report.
 const SCRIPT: [u8; 6] = [ADD, b'A', 30, REPORT, 0, 0];
 
-/// A call of `consensus_history`, or of `consensus_builder` where it has a state.
+const STATE: [u8; STATE_BYTES] = [0; STATE_BYTES];
+
+/// What is not as long as a state.
+const NO_STATES: [usize; 4] = [0, 1, STATE_BYTES - 1, STATE_BYTES + 1];
+
+/// Writes into a buffer, and says how many bytes.
+type Write = dyn Fn(&mut [u8]) -> u64;
+
+/// A call into a buffer of so many bytes.
 struct Refused {
-    settings: Settings,
-    state: Option<Vec<u8>>,
-    script: Vec<u8>,
+    call: Box<Write>,
     room: usize,
 }
 
 impl Refused {
+    fn new(room: usize, call: impl Fn(&mut [u8]) -> u64 + 'static) -> Self {
+        Self { call: Box::new(call), room }
+    }
+
     fn holds(&self) -> bool {
         let before: Vec<u8> = (0..self.room).map(|place| place as u8).collect();
         let mut bytes = before.clone();
-        let written = match &self.state {
-            Some(state) => exports::builder(self.settings, state, &self.script, &mut bytes),
-            None => exports::history(self.settings, &self.script, &mut bytes),
-        };
-        written == 0 && bytes == before
+        (self.call)(&mut bytes) == 0 && bytes == before
     }
 }
 
-/// Says how many bad arguments of `consensus_history` are refused, and whether all are.
+/// Says how many bad arguments of `consensus_history` are refused, by each of its ways, and whether
+/// all are.
 pub fn of_histories() -> bool {
-    all_refused("histories", &bad_scripts(None))
+    let of_way = |way| {
+        let call = move |BadScript { settings, script, room }| {
+            Refused::new(room, move |out| exports::history(way, settings, &script, out))
+        };
+        bad_scripts().into_iter().map(call)
+    };
+    all_refused("histories", &Way::ALL.into_iter().flat_map(of_way).collect::<Vec<Refused>>())
 }
 
-/// The same of `consensus_builder`.
+/// The same of `consensus_builder` and of `consensus_observations`.
 pub fn of_builders() -> bool {
-    let mut calls = bad_scripts(Some(&[0; STATE_BYTES]));
-    calls.extend([0, 1, STATE_BYTES - 1, STATE_BYTES + 1].map(|length| Refused {
-        settings: SETTINGS,
-        state: Some(vec![0; length]),
-        script: SCRIPT.to_vec(),
-        room: BYTES,
+    let call = |BadScript { settings, script, room }| {
+        Refused::new(room, move |out| exports::builder(settings, &STATE, &script, out))
+    };
+    let mut calls: Vec<Refused> = bad_scripts().into_iter().map(call).collect();
+    calls.extend(NO_STATES.map(|length| {
+        Refused::new(BYTES, move |out| exports::builder(SETTINGS, &vec![0; length], &SCRIPT, out))
     }));
+    calls.extend(NO_STATES.map(|length| {
+        Refused::new(observed::BYTES, move |out| exports::observations(&vec![0; length], out))
+    }));
+    calls.extend(
+        [0, 1, observed::BYTES - 1]
+            .map(|room| Refused::new(room, |out| exports::observations(&STATE, out))),
+    );
     all_refused("builders", &calls)
 }
 
-fn bad_scripts(state: Option<&[u8]>) -> Vec<Refused> {
-    let refused = |rule, script: &[u8], room| Refused {
+/// A script that is wrong, or for which a rule or a buffer is.
+struct BadScript {
+    settings: Settings,
+    script: Vec<u8>,
+    room: usize,
+}
+
+fn bad_scripts() -> Vec<BadScript> {
+    let bad = |rule, script: &[u8], room| BadScript {
         settings: Settings { rule, ..SETTINGS },
-        state: state.map(<[u8]>::to_vec),
         script: script.to_vec(),
         room,
     };
     let with = |event: &[u8]| [&SCRIPT, event].concat();
     // the last event alone is wrong, so that what is before it could have been written
     vec![
-        refused(2, &SCRIPT, BYTES),
-        refused(255, &SCRIPT, BYTES),
-        refused(0, &with(&[4, 0, 0]), BYTES),
-        refused(0, &with(&[255, b'A', 30]), BYTES),
-        refused(0, &with(&[RULE, 2, 0]), BYTES),
-        refused(0, &with(&[RULE, 255, 0]), BYTES),
-        refused(0, &with(&[ADD]), BYTES),
-        refused(0, &with(&[ADD, b'A']), BYTES),
-        refused(0, &SCRIPT[..5], BYTES),
-        refused(0, &SCRIPT, BYTES - 1),
-        refused(0, &SCRIPT, 0),
-        refused(0, &with(&SCRIPT), 2 * BYTES - 1),
+        bad(2, &SCRIPT, BYTES),
+        bad(255, &SCRIPT, BYTES),
+        bad(0, &with(&[4, 0, 0]), BYTES),
+        bad(0, &with(&[255, b'A', 30]), BYTES),
+        bad(0, &with(&[RULE, 2, 0]), BYTES),
+        bad(0, &with(&[RULE, 255, 0]), BYTES),
+        bad(0, &with(&[ADD]), BYTES),
+        bad(0, &with(&[ADD, b'A']), BYTES),
+        bad(0, &SCRIPT[..5], BYTES),
+        bad(0, &SCRIPT, BYTES - 1),
+        bad(0, &SCRIPT, 0),
+        bad(0, &with(&SCRIPT), 2 * BYTES - 1),
     ]
 }
 

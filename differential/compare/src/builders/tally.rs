@@ -5,6 +5,7 @@ use oracle::base_builder::accessors::State;
 use super::known::{Known, Totals};
 use super::states::KINDS;
 use crate::builder::cause::{Cause, causes};
+use crate::builder::observed::Observed;
 use crate::builder::report::{Field, Report, difference, state_bytes};
 use crate::builder::script::{Script, rules_at_reports};
 use crate::builder::sides::Run;
@@ -33,6 +34,8 @@ pub struct Tally {
     kinds: [OfKind; KINDS.len() + 1],
     pub known: Known,
     totals: Totals,
+    /// What the builders have counted.
+    observed: Observed,
     /// Reports that differ for no known cause by their fields, and the first ones.
     unknown: [u64; Field::ALL.len()],
     examples: Vec<String>,
@@ -49,7 +52,8 @@ impl Tally {
         let state = state_bytes(state, f64::to_bits);
         let run = Run { settings, state: Some(&state), script: &script.bytes };
         self.kinds[kind].builders += 1;
-        let rust = run.rust();
+        let rust =
+            run.rust_seen(|builder, report| self.observed.compare(builder, report, settings));
         let ours = match run.ours(script.reports) {
             Ok(ours) => ours,
             Err(problem) => return self.count_failed(&run, &problem),
@@ -107,12 +111,13 @@ impl Tally {
 
     /// What differs for no known cause, and how to see it again.
     pub fn examples(&self) -> Vec<String> {
-        self.examples.clone()
+        self.examples.iter().chain(&self.observed.example).cloned().collect()
     }
 
     /// Has those be kept that come next.
     pub fn forget_examples(&mut self) {
         self.examples.clear();
+        self.observed.example = None;
     }
 
     fn sum(&self, part: fn(&OfKind) -> u64) -> u64 {
@@ -132,9 +137,9 @@ impl Tally {
         self.sum(|kind| kind.known)
     }
 
-    /// Reports that differ otherwise, and builders without their reports.
+    /// Reports that differ otherwise, builders without their reports, and those whose counts differ.
     pub fn unexplained(&self) -> u64 {
-        self.differing_otherwise() + self.failed
+        self.differing_otherwise() + self.failed + self.observed.differing
     }
 
     fn differing_otherwise(&self) -> u64 {
@@ -142,7 +147,7 @@ impl Tally {
     }
 
     pub fn holds(&self) -> bool {
-        self.reports() > 0 && self.unexplained() == 0
+        self.observed.holds() && self.unexplained() == 0
     }
 
     pub fn print(&self) {
@@ -153,7 +158,7 @@ impl Tally {
         for (field, count) in by_field.filter(|(_, count)| *count > 0) {
             println!("builders: {}: {count} reports differ for no known cause", field.name());
         }
-        for example in &self.examples {
+        for example in self.examples() {
             println!("{example}");
         }
         println!(
@@ -165,6 +170,7 @@ impl Tally {
             self.differing_otherwise(),
             self.failed,
         );
+        self.observed.print("builders");
     }
 
     fn kinds_table(&self) -> Table {

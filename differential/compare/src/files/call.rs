@@ -1,10 +1,49 @@
 //! A call of ours, and what it is to leave.
 
+use super::listing::Found;
 use crate::exports;
 use crate::umis::call::{GUARD, untouched};
+use crate::umis::condition::TOO_SHORT;
 
-/// A call of `consensus_list`.
+/// The two functions that list a file.
+#[derive(Clone, Copy, PartialEq, Eq)]
+pub enum Function {
+    /// `consensus_list`: what the program prints, a refusal too, and how long that is.
+    List,
+    /// `consensus_listing`: a refusal by its number alone.
+    Listing,
+}
+
+impl Function {
+    pub const ALL: [Self; 2] = [Self::List, Self::Listing];
+
+    pub fn name(self) -> &'static str {
+        match self {
+            Self::List => "consensus_list",
+            Self::Listing => "consensus_listing",
+        }
+    }
+
+    /// The reply where the buffer is too short.
+    fn too_short(self) -> u64 {
+        match self {
+            Self::List => 0,
+            Self::Listing => TOO_SHORT,
+        }
+    }
+
+    /// The reply where the text is written.
+    fn written(self, text: &[u8]) -> u64 {
+        let length = text.len() as u64;
+        match self {
+            Self::List => length,
+            Self::Listing => 256 + length,
+        }
+    }
+}
+
 pub struct Call<'a> {
+    pub function: Function,
     pub file: &'a [u8],
     /// How long the buffer is.
     pub room: usize,
@@ -20,26 +59,33 @@ pub struct Outcome {
 impl Call<'_> {
     pub fn ours(&self) -> Outcome {
         let mut bytes = untouched(self.room);
-        let reply = exports::list(self.file, &mut bytes[GUARD..GUARD + self.room]);
+        let out = &mut bytes[GUARD..GUARD + self.room];
+        let reply = match self.function {
+            Function::List => exports::list(self.file, out),
+            Function::Listing => exports::listing(self.file, out),
+        };
         Outcome { reply, bytes }
     }
 
-    /// What is demanded where this is the text: one that does not fit leaves the buffer, and the
-    /// reply is then 0.
-    pub fn demanded(&self, text: &[u8]) -> Outcome {
+    /// What is demanded where this is found, with this text. One that does not fit leaves the
+    /// buffer, and so does a refusal that is a number.
+    pub fn demanded(&self, found: &Found, text: &[u8]) -> Outcome {
         let mut bytes = untouched(self.room);
+        if let (Function::Listing, Found::Refused(number)) = (self.function, found) {
+            return Outcome { reply: *number, bytes };
+        }
         if text.len() > self.room {
-            return Outcome { reply: 0, bytes };
+            return Outcome { reply: self.function.too_short(), bytes };
         }
         bytes[GUARD..GUARD + text.len()].copy_from_slice(text);
-        Outcome { reply: text.len() as u64, bytes }
+        Outcome { reply: self.function.written(text), bytes }
     }
 }
 
 impl Outcome {
     /// How this one differs from what is demanded.
     pub fn difference(&self, demanded: &Self) -> String {
-        let replies = format!("ours {} bytes, demanded {}", self.reply, demanded.reply);
+        let replies = format!("the reply {}, demanded {}", self.reply, demanded.reply);
         let mut pairs = self.bytes.iter().zip(&demanded.bytes);
         let Some(place) = pairs.position(|(ours, demanded)| ours != demanded) else {
             return replies;

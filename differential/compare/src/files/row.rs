@@ -1,6 +1,6 @@
 //! A count over the files of one kind.
 
-use super::call::Call;
+use super::call::{Call, Function};
 use super::cause::explained;
 use super::listing::Found;
 use super::parts::Made;
@@ -24,6 +24,10 @@ pub struct Row {
     pub refused: [u64; NUMBERS.len()],
     /// How many calls had too short a buffer.
     pub too_short: u64,
+    /// The same of `consensus_listing`, and how many calls it was to answer with another number.
+    pub listing_calls: u64,
+    pub listing_too_short: u64,
+    pub listing_refused: u64,
     pub differing: u64,
     /// What the listed files show.
     pub seen: Seen,
@@ -60,6 +64,9 @@ impl Row {
                 *sum += count;
             }
             sum.too_short += row.too_short;
+            sum.listing_calls += row.listing_calls;
+            sum.listing_too_short += row.listing_too_short;
+            sum.listing_refused += row.listing_refused;
             sum.differing += row.differing;
             sum.seen.add(&row.seen);
             for known in &row.known {
@@ -122,17 +129,40 @@ impl Row {
         }
     }
 
-    /// One call.
+    /// One call of each function.
     pub fn compare(&mut self, file: &[u8], room: usize, found: &Found, text: &[u8]) {
-        let call = Call { file, room };
-        self.calls += 1;
-        self.too_short += u64::from(room < text.len());
-        let (ours, demanded) = (call.ours(), call.demanded(text));
+        for function in Function::ALL {
+            self.count(function, room, found, text);
+            self.compare_call(&Call { function, file, room }, found, text);
+        }
+    }
+
+    fn count(&mut self, function: Function, room: usize, found: &Found, text: &[u8]) {
+        let too_short = u64::from(room < text.len());
+        match (function, found) {
+            (Function::List, _) => {
+                self.calls += 1;
+                self.too_short += too_short;
+            }
+            (Function::Listing, Found::Listed(_)) => {
+                self.listing_calls += 1;
+                self.listing_too_short += too_short;
+            }
+            (Function::Listing, Found::Refused(_)) => {
+                self.listing_calls += 1;
+                self.listing_refused += 1;
+            }
+        }
+    }
+
+    fn compare_call(&mut self, call: &Call, found: &Found, text: &[u8]) {
+        let (ours, demanded) = (call.ours(), call.demanded(found, text));
         if ours == demanded {
             return;
         }
-        let problem = ours.difference(&demanded);
-        match explained(found).filter(|explained| ours == call.demanded(&explained.text)) {
+        let Call { function, file, room } = call;
+        let problem = format!("{}: {}", function.name(), ours.difference(&demanded));
+        match explained(found).filter(|explained| ours == call.demanded(found, &explained.text)) {
             Some(explained) => {
                 let example = || format!("file {}: {problem}", digits(file));
                 let causes = explained.causes.into_iter();

@@ -5,6 +5,7 @@ use super::row::{Known, Row};
 use super::seen::Seen;
 use crate::builder::{RULES, cause::Cause};
 use crate::table::Table;
+use crate::umis::condition::TOO_SHORT;
 
 /// How many different rates there are.
 const RATES: usize = 256;
@@ -34,6 +35,11 @@ pub fn print(rows: &[Row]) -> bool {
         all.listed,
         refused.join(", "),
         all.differing
+    );
+    println!(
+        "files: consensus_listing beside the same texts, {} calls: {} refused by the number, {} by \
+         {TOO_SHORT}; differences are counted above",
+        all.listing_calls, all.listing_refused, all.listing_too_short,
     );
     all.differing == 0 && missing.is_empty()
 }
@@ -87,6 +93,8 @@ fn missing(all: &Row) -> Vec<String> {
     let [pre, post] = seen.rates_of_each();
     let others = [
         ("0, for too short a buffer", all.too_short > 0),
+        ("10, for too short a buffer", all.listing_too_short > 0),
+        ("256 and more", all.listing_calls > all.listing_refused + all.listing_too_short),
         ("a column called N", seen.no_calls > seen.empty),
         ("a column called otherwise", seen.columns > seen.no_calls),
         ("an empty column", seen.empty > 0),

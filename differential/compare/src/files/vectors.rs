@@ -2,7 +2,7 @@
 
 use std::collections::HashSet;
 
-use super::call::Call;
+use super::call::{Call, Function};
 use super::cause::explained;
 use super::drawn::KINDS;
 use super::listing::Found;
@@ -93,12 +93,12 @@ impl List {
         if text.len() > TEXT_BYTES || self.seen.contains(&file) {
             return Ok(());
         }
-        let call = Call { file: &file, room: text.len() };
-        let (ours, demanded) = (call.ours(), call.demanded(&text));
+        let call = Call { function: Function::List, file: &file, room: text.len() };
+        let (ours, demanded) = (call.ours(), call.demanded(&found, &text));
         if ours == demanded {
             let (file, text) = (field(&file, FILE_BYTES), field(&text, TEXT_BYTES));
             self.lines.push(format!("{LETTER} {file} {text}\n"));
-        } else if explained(&found).is_some_and(|known| ours == call.demanded(&known.text)) {
+        } else if explained(&found).is_some_and(|it| ours == call.demanded(&found, &it.text)) {
             self.left_out += 1;
         } else {
             let difference = ours.difference(&demanded);

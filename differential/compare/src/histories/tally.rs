@@ -3,7 +3,9 @@
 use std::collections::HashSet;
 
 use super::columns::KINDS;
+use super::ways::Ways;
 use crate::builder::cause::{Cause, causes};
+use crate::builder::observed::Observed;
 use crate::builder::report::{Field, Report};
 use crate::builder::sides::Run;
 use crate::builder::ties::unique_maximum;
@@ -50,6 +52,9 @@ pub struct Tally {
     /// Scripts for which there are no reports to compare, and one of them.
     failed: u64,
     failed_example: Option<String>,
+    /// By the other ways to a report, and what the builders of the reports have counted.
+    pub ways: Ways,
+    pub observed: Observed,
 }
 
 /// How many reports differ in a field, and the shortest script of some that show it.
@@ -84,13 +89,14 @@ impl Tally {
         self.sum().reports
     }
 
-    /// Reports that differ, whatever the cause, and scripts without their reports.
+    /// Reports that differ, whatever the cause and the way, scripts without their reports, and
+    /// builders whose counts differ.
     pub fn unexplained(&self) -> u64 {
-        self.sum().differing + self.failed
+        self.sum().differing + self.failed + self.ways.unexplained() + self.observed.differing
     }
 
     pub fn holds(&self) -> bool {
-        self.reports() > 0 && self.unexplained() == 0
+        self.ways.all_went() && self.observed.holds() && self.unexplained() == 0
     }
 
     pub fn count_script(&mut self, settings: Settings) {
@@ -175,7 +181,8 @@ impl Tally {
     pub fn examples(&self) -> Vec<String> {
         let of_fields = self.fields.iter().filter_map(|field| field.example.as_ref());
         let of_fields = of_fields.map(|example| &example.words);
-        of_fields.chain(&self.failed_example).cloned().collect()
+        let others = self.ways.examples().chain(&self.observed.example);
+        of_fields.chain(&self.failed_example).chain(others).cloned().collect()
     }
 
     /// Has those be kept that come next.
@@ -184,6 +191,8 @@ impl Tally {
             (field.tried, field.example) = (0, None);
         }
         self.failed_example = None;
+        self.ways.forget_examples();
+        self.observed.example = None;
     }
 
     pub fn print(&self) {
@@ -202,6 +211,8 @@ impl Tally {
             "histories: {} reports differ, {} scripts without the bytes of their reports",
             sum.differing, self.failed
         );
+        self.ways.print();
+        self.observed.print("histories");
         let [pre, post] = self.rates.each_ref().map(HashSet::len);
         println!("histories: {pre} pre rates and {post} post rates");
     }
@@ -274,7 +285,7 @@ fn rules_differ(lanes: [f64; 4]) -> bool {
 }
 
 /// A report's column alone, from a new builder with the rule that there was.
-fn from_reset<'a>(run: &Run<'a>, place: &Place) -> Run<'a> {
+pub fn from_reset<'a>(run: &Run<'a>, place: &Place) -> Run<'a> {
     Run {
         settings: Settings { rule: place.rule_at_start, ..run.settings },
         state: None,

@@ -3,6 +3,7 @@
 use std::mem::take;
 
 use crate::builder::cause::Cause;
+use crate::random::Random;
 use crate::table::Table;
 use crate::umis::condition;
 use crate::{builders, files, histories, umis};
@@ -12,6 +13,7 @@ use crate::{builders, files, histories, umis};
 const HISTORIES: u64 = 500_000;
 const BUILDERS: u64 = 6_000;
 const SETS: u64 = 10_000;
+const SEQUENCES: u64 = 1_000;
 const FILES: u64 = 8_000;
 
 #[derive(Default)]
@@ -20,6 +22,7 @@ pub struct Totals {
     histories: histories::tally::Tally,
     builders: builders::tally::Tally,
     umis: umis::row::Row,
+    sequences: umis::sequences::Sequences,
     files: files::row::Row,
 }
 
@@ -30,13 +33,16 @@ impl Totals {
         histories::compare_drawn(HISTORIES, seed, &mut self.histories);
         builders::compare_drawn(BUILDERS, seed, &mut self.builders);
         let umis = umis::by_seed(SETS, seed);
+        self.sequences.compare_all(SEQUENCES, &mut Random::new(seed));
         let files = files::by_seed(FILES, seed);
         let mut examples = self.histories.examples();
         examples.extend(self.builders.examples());
         examples.extend(umis::tally::examples(&umis));
+        examples.extend(self.sequences.example());
         examples.extend(files::tally::examples(&files));
         self.histories.forget_examples();
         self.builders.forget_examples();
+        self.sequences.forget_example();
         self.add_rows(umis, files);
         examples
     }
@@ -53,6 +59,7 @@ impl Totals {
         self.histories.unexplained()
             + self.builders.unexplained()
             + self.umis.differing
+            + self.sequences.differing
             + self.files.differing
     }
 
@@ -96,6 +103,8 @@ impl Totals {
         lines.push(line("calls of UMI functions, accepted", self.umis.accepted.calls));
         let refused = condition::NUMBERS.into_iter().zip(self.umis.refused);
         lines.extend(of_numbers("calls of UMI functions", refused));
+        lines.push(line("sequences of UMI sets on one caller", self.sequences.sequences));
+        lines.push(line("UMI sets in them", self.sequences.sets));
         lines.push(line("column files, listed", self.files.listed));
         let refused = files::reader::NUMBERS.into_iter().zip(self.files.refused);
         lines.extend(of_numbers("column files", refused));

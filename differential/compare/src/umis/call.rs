@@ -92,7 +92,7 @@ impl Call<'_> {
 }
 
 /// The reply to an accepted set.
-fn accepted(given: &Given) -> u64 {
+pub fn accepted(given: &Given) -> u64 {
     let [first, second] = given.flags.map(u64::from);
     256 + 4 * given.string.len() as u64 + 2 * second + first
 }

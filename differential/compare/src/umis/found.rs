@@ -3,7 +3,7 @@
 use super::condition::{CUT_OFF, TOO_LONG, condition};
 use super::file_form::{LONGEST, read};
 use super::function::{Function, Rates};
-use super::rust::{Given, beyond_strings, reply};
+use super::rust::{Caller, Given, reply};
 
 pub enum Found {
     /// A number alone: of a condition, or 0 where there is no such function.
@@ -27,7 +27,7 @@ impl Found {
         }
         Ok(match condition {
             Some(number) => Self::Number(number),
-            None => Self::Given(beyond_strings(function, rates, &strings)),
+            None => Self::Given(Caller::new(rates).answer(function, &strings)),
         })
     }
 }

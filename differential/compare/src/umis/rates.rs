@@ -24,7 +24,7 @@ pub fn row(sets: u64, random: &mut Random) -> Row {
 }
 
 /// Rates as a builder's, and every second time the next quality.
-fn drawn(turn: u64, random: &mut Random) -> Rates {
+pub fn drawn(turn: u64, random: &mut Random) -> Rates {
     let settings = draws::settings(turn, random);
     let quality = if turn % 4 < 2 { (turn / 4) as u8 } else { Qualities::Any.next(random) };
     Rates { pre: settings.pre, post: settings.post, quality }

@@ -1,8 +1,7 @@
 //! The Rust's answers.
 
-use oracle::base_builder::ConsensusBaseBuilder;
 use oracle::base_builder::accessors::state;
-use oracle::simple_umi::accessors::{builder, wrapped, wrapped_builder};
+use oracle::simple_umi::accessors::{inner, wrapped, wrapped_builder};
 use oracle::simple_umi::{SimpleConsensusCaller, SimpleUmiConsensusCaller, consensus_umis};
 
 use super::condition::strand;
@@ -27,85 +26,84 @@ impl Given {
     }
 }
 
-/// What a new caller answers, or the number of the condition for which it panics.
+/// What a new caller answers to strings of bytes below 128, or the number of the condition for which
+/// it panics.
 pub fn reply(function: Function, rates: Rates, strings: &[&[u8]]) -> Result<Given, u64> {
-    let umis = owned(strings);
-    panics::answer(|| answered(function, rates, &umis))
+    let umis = texts(strings).expect("bytes below 128");
+    panics::answer(|| Caller::new(rates).ask(function, &umis))
 }
 
-fn answered(function: Function, rates: Rates, umis: &[String]) -> Given {
-    match function {
-        Function::CallConsensus => {
-            let mut caller = caller(rates);
-            let string = caller.call_consensus(umis);
-            Given { after: Some(bytes_of(builder(&caller))), ..bare(string) }
+/// A caller of the Rust, which can be asked again and again.
+pub struct Caller(SimpleUmiConsensusCaller);
+
+impl Caller {
+    /// Where the rates are the defaults, as the source itself makes it, so that these are compared too.
+    pub fn new(rates: Rates) -> Self {
+        let Rates { pre, post, quality } = rates;
+        Self(if rates == DEFAULTS {
+            SimpleUmiConsensusCaller::new()
+        } else {
+            wrapped(SimpleConsensusCaller::new(pre, post, quality))
+        })
+    }
+
+    /// Its builder.
+    pub fn state(&self) -> StateBytes {
+        state_bytes(&state(wrapped_builder(&self.0)), stored_bits)
+    }
+
+    /// What it answers to strings that meet no condition.
+    pub fn answer(&mut self, function: Function, strings: &[&[u8]]) -> Given {
+        match texts(strings) {
+            Some(umis) => self.ask(function, &umis),
+            None => self.answer_beyond_texts(function, strings),
         }
-        Function::Consensus => {
-            let mut caller = umi_caller(rates);
-            let (string, flag) = caller.consensus(umis);
-            flagged(string.into_bytes(), [flag, false], &caller)
+    }
+
+    /// What it answers. Where the strings meet a condition, it panics or gives what is known to differ.
+    pub fn ask(&mut self, function: Function, umis: &[String]) -> Given {
+        let (string, flags) = match function {
+            Function::CallConsensus => (inner(&mut self.0).call_consensus(umis), [false; 2]),
+            Function::Consensus => {
+                let (string, flag) = self.0.consensus(umis);
+                (string, [flag, false])
+            }
+            Function::ConsensusUmis => (consensus_umis(umis), [false; 2]),
+            Function::ConsensusDuplex => {
+                let (string, flag_a, flag_b) = self.0.consensus_duplex(umis);
+                (string, [flag_a, flag_b])
+            }
+        };
+        self.given(function, string.into_bytes(), flags)
+    }
+
+    /// The same where the strings are no UTF-8, and so no `String`. One with such bytes that meets no
+    /// condition can only come back unchanged: alone, or as the first of unequally long ones. The Rust
+    /// answers for the other strand.
+    fn answer_beyond_texts(&mut self, function: Function, strings: &[&[u8]]) -> Given {
+        if function == Function::ConsensusDuplex {
+            let (a, flag_a) = self.answer_group(&strand(strings, b"/A"));
+            let (b, flag_b) = self.answer_group(&strand(strings, b"/B"));
+            return self.given(function, if a.is_empty() { b } else { a }, [flag_a, flag_b]);
         }
-        Function::ConsensusUmis => bare(consensus_umis(umis)),
-        Function::ConsensusDuplex => {
-            let mut caller = umi_caller(rates);
-            let (string, flag_a, flag_b) = caller.consensus_duplex(umis);
-            flagged(string.into_bytes(), [flag_a, flag_b], &caller)
+        let (string, flag) = self.answer_group(strings);
+        self.given(function, string, [flag, false])
+    }
+
+    fn answer_group(&mut self, strings: &[&[u8]]) -> (Vec<u8>, bool) {
+        if let Some(umis) = texts(strings) {
+            let (string, flag) = self.0.consensus(&umis);
+            return (string.into_bytes(), flag);
         }
+        (strings[0].to_vec(), strings.len() > 1)
+    }
+
+    fn given(&self, function: Function, string: Vec<u8>, flags: [bool; 2]) -> Given {
+        Given { string, flags, after: function.is_of_caller().then(|| self.state()) }
     }
 }
 
-/// What is answered to strings of which one has a byte of 128 or more, and which meet no condition.
-/// They make a `String` only where they are UTF-8, but such a string can only come back unchanged: alone,
-/// or as the first of unequally long ones. The Rust answers for the other strand.
-pub fn beyond_strings(function: Function, rates: Rates, strings: &[&[u8]]) -> Given {
-    let mut caller = umi_caller(rates);
-    if function == Function::ConsensusDuplex {
-        let (a, flag_a) = of_group(&mut caller, &strand(strings, b"/A"));
-        let (b, flag_b) = of_group(&mut caller, &strand(strings, b"/B"));
-        return flagged(if a.is_empty() { b } else { a }, [flag_a, flag_b], &caller);
-    }
-    let (string, flag) = of_group(&mut caller, strings);
-    flagged(string, [flag, false], &caller)
-}
-
-fn of_group(caller: &mut SimpleUmiConsensusCaller, strings: &[&[u8]]) -> (Vec<u8>, bool) {
-    if strings.iter().all(|string| string.is_ascii()) {
-        let (string, flag) = caller.consensus(&owned(strings));
-        return (string.into_bytes(), flag);
-    }
-    (strings[0].to_vec(), strings.len() > 1)
-}
-
-/// An answer without flags, of a function without a caller.
-fn bare(string: String) -> Given {
-    Given { string: string.into_bytes(), flags: [false; 2], after: None }
-}
-
-fn flagged(string: Vec<u8>, flags: [bool; 2], caller: &SimpleUmiConsensusCaller) -> Given {
-    Given { string, flags, after: Some(bytes_of(wrapped_builder(caller))) }
-}
-
-/// Where the rates are the defaults, as the source itself makes it, so that these are compared too.
-fn caller(rates: Rates) -> SimpleConsensusCaller {
-    let Rates { pre, post, quality } = rates;
-    if rates == DEFAULTS {
-        SimpleConsensusCaller::default()
-    } else {
-        SimpleConsensusCaller::new(pre, post, quality)
-    }
-}
-
-/// The same of the wrapper.
-fn umi_caller(rates: Rates) -> SimpleUmiConsensusCaller {
-    if rates == DEFAULTS { SimpleUmiConsensusCaller::new() } else { wrapped(caller(rates)) }
-}
-
-fn bytes_of(builder: &ConsensusBaseBuilder) -> StateBytes {
-    state_bytes(&state(builder), stored_bits)
-}
-
-/// Strings of bytes below 128 as the Rust takes them.
-fn owned(strings: &[&[u8]]) -> Vec<String> {
-    let owned = |string: &&[u8]| String::from_utf8(string.to_vec()).expect("bytes below 128");
-    strings.iter().map(owned).collect()
+/// The strings as the Rust takes them; None where one is no UTF-8.
+fn texts(strings: &[&[u8]]) -> Option<Vec<String>> {
+    strings.iter().map(|string| String::from_utf8(string.to_vec()).ok()).collect()
 }

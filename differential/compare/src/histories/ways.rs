@@ -1,0 +1,95 @@
+//! The reports of the same scripts by the other ways to them.
+
+use super::tally::{Place, from_reset};
+use crate::builder::report::{Report, difference};
+use crate::builder::sides::{Run, Way};
+
+/// One script in so many goes the other ways, too. On one of them builder and tables are copied at
+/// each step, which takes the most time.
+const ONE_IN: u64 = 4;
+
+/// What came out of each of the other ways.
+#[derive(Default)]
+pub struct Ways {
+    scripts: u64,
+    of_each: [OfWay; Way::OTHERS.len()],
+}
+
+#[derive(Default)]
+struct OfWay {
+    reports: u64,
+    differing: u64,
+    /// Scripts for which there are no reports to compare.
+    failed: u64,
+    /// The first difference.
+    example: Option<String>,
+}
+
+impl Ways {
+    /// Compares a script, or passes it over; these are its reports by the Rust.
+    pub fn compare(&mut self, run: &Run, places: &[Place], rust: &[Report]) {
+        self.scripts += 1;
+        if (self.scripts - 1) % ONE_IN > 0 {
+            return;
+        }
+        for (way, tally) in Way::OTHERS.into_iter().zip(&mut self.of_each) {
+            tally.compare(way, run, places, rust);
+        }
+    }
+
+    pub fn unexplained(&self) -> u64 {
+        self.of_each.iter().map(|way| way.differing + way.failed).sum()
+    }
+
+    /// Whether there were reports by each way.
+    pub fn all_went(&self) -> bool {
+        self.of_each.iter().all(|way| way.reports > 0)
+    }
+
+    pub fn examples(&self) -> impl Iterator<Item = &String> {
+        self.of_each.iter().filter_map(|way| way.example.as_ref())
+    }
+
+    pub fn forget_examples(&mut self) {
+        self.of_each.iter_mut().for_each(|way| way.example = None);
+    }
+
+    pub fn print(&self) {
+        for (way, tally) in Way::OTHERS.into_iter().zip(&self.of_each) {
+            println!(
+                "histories: {}: {} reports, {} differ, {} scripts without the bytes of theirs",
+                way.name(),
+                tally.reports,
+                tally.differing,
+                tally.failed,
+            );
+        }
+    }
+}
+
+impl OfWay {
+    fn compare(&mut self, way: Way, run: &Run, places: &[Place], rust: &[Report]) {
+        let ours = match run.ours_by(way, rust.len()) {
+            Ok(ours) => ours,
+            Err(problem) => {
+                self.failed += 1;
+                return self.keep(way, run, &problem);
+            }
+        };
+        for ((ours, rust), place) in ours.iter().zip(rust).zip(places) {
+            self.reports += 1;
+            if ours != rust {
+                self.differing += 1;
+                let column = from_reset(run, place);
+                let shows = column.ours_by(way, column.rust().len()) != Ok(column.rust());
+                let again = if shows { column } else { *run };
+                self.keep(way, &again, &difference(ours, rust));
+            }
+        }
+    }
+
+    fn keep(&mut self, way: Way, run: &Run, problem: &str) {
+        let words = || format!("histories: {}: {problem}: {run}", way.name());
+        self.example.get_or_insert_with(words);
+    }
+}
