@@ -1,13 +1,14 @@
 -- Corners of base_builder.rs: what a lane gets at post-UMI rate 0, and that a lane at -infinity is NaN after the next counted base. Assumes nothing.
 use mathlib.Core.Path.{_≡_, refl, ap, _∙_}
-use mathlib.Core.Bool.{Bool, true, false, Bool·beq}
-use Prim.Native.Nat.{ℕ, _≤_}
+use mathlib.Core.Bool.{true, false}
+use Prim.Native.Nat.{ℕ, _≤_, min}
 use native.Mathlib.Omega.{arith}
-use lib.Dec.{T, leb}
-use lib.ListN.{getD}
+use borrow.Author.Tests.{ltb-true, ltb-false, le-leb}
+use lib.Dec.{T, ltb}
 use lib.Ieee.{Float, nan, inf, fin, add, sub, mul, div, neg, lt, le, eq, ne, isNan, ofBits, toBits, ofInt}
 use Rattle.float.specs.Ops.{_⊕_, _⊖_}
 use Rattle.float.specs.Claims.{all, every}
+use Rattle.float.proofs.Cases.{test}
 use Rattle.float.proofs.Claims.{below}
 use Rattle.float.specs.Methods.{absOf, betweenOf, floorOf}
 use Rattle.elementary_tables.specs.ExpTable.{expRowOf}
@@ -19,25 +20,25 @@ use Rattle.elementary.specs.LnOnePlus.{reducedOf, expansionOf, joinedOf, number
 use Rattle.elementary.specs.Ln.{ratioOf, normalOf, lnOf}
 use Rattle.phred.specs.Phred.{lnZero, phredToLnErrorProb, lnOneMinusExp, lnNot, log1pexpOf, lnAMinusB, lnSumExpGeneral, lnSumExp, twoTrials, lnErrorProbTwoTrials}
 use Rattle.rate_tables.specs.Adjusted.{adjustedError, correctAt, errorPerAltAt, adjustedTables}
-use Rattle.rate_tables.proofs.Filled.{level-at}
+use Rattle.rate_tables.specs.Tables.{listed}
 use Rattle.base_builder.specs.declared.observation.Sum.{Sum}
 use Rattle.base_builder.specs.Observation.{movedBy}
 use Rattle.base_builder_history.specs.Corners.{sinksAt, aboutLn, atQuality0}
 
 sinks : T (every sinksAt 0 94)
-unfolding add sub mul div neg lt le eq ne isNan ofBits toBits ofInt headOf lostOf productErrorOf fmaSmallProductOf fmaLargeProductOf expRowOf seriesOf powerOfTwoOf scaledOf from0Of nearOf expOf absOf betweenOf floorOf lnRowOf ratioOf normalOf reducedOf expansionOf joinedOf numberOf lnOnePlusOf lnOf correctionOf nearZeroOf shiftedOf expMinusOneOf phredToLnErrorProb lnOneMinusExp lnNot log1pexpOf lnAMinusB lnSumExpGeneral lnSumExp twoTrials lnErrorProbTwoTrials adjustedError correctAt sinksAt every
+unfolding add sub mul div neg lt le eq ne isNan ofBits toBits ofInt headOf lostOf productErrorOf fmaSmallProductOf fmaLargeProductOf expRowOf seriesOf powerOfTwoOf scaledOf from0Of nearOf expOf absOf betweenOf floorOf lnRowOf ratioOf normalOf reducedOf expansionOf joinedOf numberOf lnOnePlusOf lnOf correctionOf nearZeroOf shiftedOf expMinusOneOf phredToLnErrorProb lnOneMinusExp lnNot log1pexpOf lnAMinusB lnSumExpGeneral lnSumExp twoTrials lnErrorProbTwoTrials adjustedError correctAt listed adjustedTables sinksAt every
 sinks = tt
 
-same-test : (a b : Bool) → T (Bool·beq a b) → a ≡ b
-same-test true true h = refl
-same-test true false h = absurd h
-same-test false true h = absurd h
-same-test false false h = refl
+-- a quality above 93 is read at entry 93, and is 27 or more as that is
+sinks-above : (q : ℕ) → 94 ≤ q → T (sinksAt q)
+unfolding sinksAt
+sinks-above q h =
+    let e : min q 93 ≡ 93 = omega arith in
+    rw (e, le-leb 27 q (omega arith)) (below sinksAt 94 sinks 93 (omega arith))
 
 -- at post-UMI rate 0 the matching lane gets -infinity exactly at qualities of 27 and more
-pub sinks-from-27 : (q : ℕ) → q ≤ 93 → eq (getD (adjustedTables 0 .correct) q nan) lnZero ≡ leb 27 q
-unfolding adjustedTables sinksAt
-sinks-from-27 q h = rw (level-at (correctAt 0) nan 94 q (omega arith)) (same-test (eq (correctAt 0 q) lnZero) (leb 27 q) (below sinksAt 94 sinks q (omega arith)))
+pub sinks-from-27 : (q : ℕ) → T (sinksAt q)
+sinks-from-27 q = test (ltb q 94) (λ h. below sinksAt 94 sinks q (ltb-true q 94 h)) (λ h. sinks-above q (ltb-false q 94 h))
 
 -- and at quality 0 about ln(1/3), the others about ln(2/9)
 pub at-quality-0 : T (all atQuality0)

@@ -1,71 +1,18 @@
--- Document 01's inputs that are marked with a star, in one list. The two on a new builder hold at any rate and with any tables. Assumes nothing.
-use mathlib.Core.Bool.{Bool, _&&_}
-use mathlib.Core.List.{List, [], _∷_}
+-- Document 01's inputs that are marked with a star, computed in one test, at any rate and with any tables. Assumes nothing.
 use Prim.Native.Nat.{ℕ}
-use lib.Dec.{T, eqb}
-use lib.Ieee.{Float, nan, neg, lt, le, eq, isNan, add as add', sub, mul, div, ofBits, ofInt, toBits}
-use Rattle.float.specs.Ops.{_⊕_, _⊖_, bits, whole}
+use lib.Dec.{T}
+use lib.Ieee.{neg, lt, le, eq, isNan, add as add', sub, mul, div, ofBits, ofInt, toBits}
 use Rattle.float.specs.Methods.{absOf, floorOf}
-use Rattle.float.specs.Claims.{all}
-use Rattle.phred.specs.Phred.{lnZero, phredToLnErrorProb, lnProbToPhred}
+use Rattle.phred.specs.Phred.{phredToLnErrorProb, lnProbToPhred}
 use Rattle.rate_tables.specs.declared.adjusted.AdjustedProbabilityTables.{AdjustedProbabilityTables}
 use Rattle.gap_tables.specs.declared.gaps.UnanimousGapTables.{UnanimousGapTables}
-use Rattle.tie_rules.specs.declared.tie_rule.TieRule.the-variants.{UlpRelative, FgbioCompat}
-use Rattle.tie_rules.specs.Lanes.{baseOf, laneOfByte, allBelow, counted}
+use Rattle.tie_rules.specs.Lanes.{baseOf, laneOfByte, allBelow}
 use Rattle.tie_rules.specs.Ties.{fgbioTie, nearPatterns, ulpTie, tiesWith, untied, fgbioStep, ulpStep, scan, fgbioUniqueMaxIndex, uniqueMaxIndex, notMinusInfinity, uniqueMaxIndexWith}
-use Rattle.base_builder.specs.declared.builder.ConsensusBaseBuilder.{ConsensusBaseBuilder}
 use Rattle.base_builder.specs.Builder.{newAt, cleared, total, contributionsOf, addedBy, added}
 use Rattle.base_builder.specs.Calls.{callOf}
-use Rattle.base_builder_history.specs.History.{add, step, run}
+use Rattle.base_builder_history.specs.History.{step, run}
+use Rattle.base_builder_history.specs.Starred.{allStarred}
 
--- N, 2, counts 0
-abbrev pub isNew : UnanimousGapTables → ConsensusBaseBuilder → Bool
-isNew t b = all (eqb (callOf t b .base) 78 ∷ eqb (callOf t b .qual .0) 2 ∷ eqb (counted (b .observations) 0) 0 ∷ eqb (counted (b .observations) 1) 0 ∷ eqb (counted (b .observations) 2) 0 ∷ eqb (counted (b .observations) 3) 0 ∷ [])
-
--- the bases that FgbioCompat and UlpRelative name, N for none
-abbrev pub named : List Float → ℕ → ℕ → Bool
-named xs fgbio ulp = eqb (baseOf (uniqueMaxIndexWith xs FgbioCompat)) fgbio && eqb (baseOf (uniqueMaxIndexWith xs UlpRelative)) ulp
-
--- -n
-abbrev pub minus : ℕ → Float
-minus n = neg (whole n)
-
--- 2^-53, 2^-43, 2^-10
-abbrev pub p53 : Float
-p53 = bits 0x3ca0_0000_0000_0000
-
-abbrev pub p43 : Float
-p43 = bits 0x3d40_0000_0000_0000
-
-abbrev pub p10 : Float
-p10 = bits 0x3f50_0000_0000_0000
-
--- A, C and N
-abbrev pub A : ℕ
-A = 65
-
-abbrev pub C : ℕ
-C = 67
-
-abbrev pub N : ℕ
-N = 78
-
-abbrev pub claims : ℕ → AdjustedProbabilityTables → UnanimousGapTables → List Bool
-claims pre adjusted gaps =
-    isNew gaps (newAt pre)
-    ∷ isNew gaps (run adjusted (add 78 30 ∷ add 45 30 ∷ []) (newAt pre))
-    ∷ eqb (lnProbToPhred nan) 2
-    ∷ eqb (lnProbToPhred lnZero) 93
-    ∷ eqb (lnProbToPhred (phredToLnErrorProb 30)) 30
-    ∷ eqb (lnProbToPhred (phredToLnErrorProb 94)) 93
-    ∷ named (minus 1 ∷ (minus 1 ⊕ p53) ∷ minus 9 ∷ minus 9 ∷ []) C N
-    ∷ named ((minus 1 ⊕ p53) ∷ minus 1 ∷ minus 9 ∷ minus 9 ∷ []) N N
-    ∷ named (minus 500 ∷ (minus 500 ⊖ p43) ∷ minus 600 ∷ minus 600 ∷ []) A N
-    ∷ named (neg p10 ∷ (neg p10 ⊖ p53) ∷ minus 9 ∷ minus 9 ∷ []) N A
-    ∷ named (nan ∷ minus 3 ∷ minus 4 ∷ minus 5 ∷ []) C C
-    ∷ named (lnZero ∷ lnZero ∷ lnZero ∷ lnZero ∷ []) N N
-    ∷ []
-
-pub starred : (pre : ℕ) (adjusted : AdjustedProbabilityTables) (gaps : UnanimousGapTables) → T (all (claims pre adjusted gaps))
+pub starred : (pre : ℕ) (adjusted : AdjustedProbabilityTables) (gaps : UnanimousGapTables) → T (allStarred pre adjusted gaps)
 unfolding callOf contributionsOf total newAt cleared baseOf run step added addedBy laneOfByte lnProbToPhred phredToLnErrorProb lt le eq isNan div mul add' sub neg ofBits ofInt toBits absOf floorOf uniqueMaxIndexWith fgbioUniqueMaxIndex notMinusInfinity uniqueMaxIndex scan fgbioStep ulpStep fgbioTie untied tiesWith ulpTie nearPatterns allBelow
 starred pre adjusted gaps = tt

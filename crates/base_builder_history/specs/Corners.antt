@@ -3,16 +3,18 @@ use Prim.Native.Nat.{ℕ}
 use mathlib.Core.Bool.{Bool, Bool·beq}
 use mathlib.Core.List.{List, [], _∷_}
 use lib.Dec.{leb}
-use lib.Ieee.{Float, lt, eq}
+use lib.ListN.{getD}
+use lib.Ieee.{Float, nan, lt, eq}
 use Rattle.float.specs.Ops.{_⊖_, _⊘_, bits, whole}
 use Rattle.float.specs.Methods.{absOf}
 use Rattle.elementary.specs.Ln.{lnOf}
 use Rattle.phred.specs.Phred.{lnZero}
-use Rattle.rate_tables.specs.Adjusted.{correctAt, errorPerAltAt}
+use Rattle.rate_tables.specs.Adjusted.{correctAt, errorPerAltAt, adjustedTables}
+use Rattle.base_builder.specs.Builder.{entryOf}
 
--- at post-UMI rate 0 the matching lane gets -infinity at this quality exactly where it is 27 or more
+-- at post-UMI rate 0 the matching lane gets -infinity at this quality byte exactly where it is 27 or more
 unfoldable pub sinksAt : ℕ → Bool
-sinksAt q = Bool·beq (eq (correctAt 0 q) lnZero) (leb 27 q)
+sinksAt q = Bool·beq (eq (getD (adjustedTables 0 .correct) (entryOf q) nan) lnZero) (leb 27 q)
 
 -- x is within 2^-50 of ln(m / n)
 unfoldable pub aboutLn : Float → ℕ → ℕ → Bool

@@ -12,19 +12,20 @@ use Rattle.elementary.specs.Exp.{seriesOf, powerOfTwoOf, scaledOf, from0Of, nea
 use Rattle.elementary.specs.ExpMinusOne.{correctionOf, nearZeroOf, shiftedOf, expMinusOneOf}
 use Rattle.elementary.specs.LnOnePlus.{reducedOf, expansionOf, joinedOf, numberOf, lnOnePlusOf}
 use Rattle.elementary.specs.Ln.{ratioOf, normalOf, lnOf}
+use Rattle.phred.specs.Phred.{phredToLnErrorProb}
 use Rattle.elementary_accuracy.specs.Fraction.{power}
-use Rattle.elementary_accuracy.specs.Claims.{pointOf, expAtLevel, lnAtLevel, expMinusOneAtLevel, lnOnePlusAtPower, expMinusOneAtPower, named, claims}
+use Rattle.elementary_accuracy.specs.Claims.{expAtLevel, lnAtLevel, expMinusOneAtLevel, lnOnePlusAtPower, expMinusOneAtPower, named, claims}
 
 exp-levels : T (every expAtLevel 0 94)
-unfolding add sub mul div neg lt le eq ne ofBits toBits ofInt headOf lostOf productErrorOf fmaSmallProductOf expRowOf seriesOf powerOfTwoOf scaledOf from0Of nearOf expOf every power pointOf expAtLevel
+unfolding add sub mul div neg lt le eq ne ofBits toBits ofInt headOf lostOf productErrorOf fmaSmallProductOf expRowOf seriesOf powerOfTwoOf scaledOf from0Of nearOf expOf every power phredToLnErrorProb expAtLevel
 exp-levels = tt
 
 ln-levels : T (every lnAtLevel 0 94)
-unfolding add sub mul div neg lt le eq ne ofBits toBits ofInt headOf lostOf productErrorOf fmaSmallProductOf fmaLargeProductOf expRowOf seriesOf powerOfTwoOf scaledOf from0Of nearOf expOf betweenOf lnRowOf ratioOf normalOf reducedOf expansionOf joinedOf numberOf lnOnePlusOf lnOf every pointOf lnAtLevel
+unfolding add sub mul div neg lt le eq ne ofBits toBits ofInt headOf lostOf productErrorOf fmaSmallProductOf fmaLargeProductOf expRowOf seriesOf powerOfTwoOf scaledOf from0Of nearOf expOf betweenOf lnRowOf ratioOf normalOf reducedOf expansionOf joinedOf numberOf lnOnePlusOf lnOf every phredToLnErrorProb lnAtLevel
 ln-levels = tt
 
 exp-minus-one-levels : T (every expMinusOneAtLevel 0 94)
-unfolding add sub mul div neg lt le eq ne ofBits toBits ofInt headOf lostOf productErrorOf fmaSmallProductOf fmaLargeProductOf expRowOf seriesOf powerOfTwoOf scaledOf from0Of nearOf expOf betweenOf correctionOf nearZeroOf shiftedOf expMinusOneOf every pointOf expMinusOneAtLevel
+unfolding add sub mul div neg lt le eq ne ofBits toBits ofInt headOf lostOf productErrorOf fmaSmallProductOf fmaLargeProductOf expRowOf seriesOf powerOfTwoOf scaledOf from0Of nearOf expOf betweenOf correctionOf nearZeroOf shiftedOf expMinusOneOf every phredToLnErrorProb expMinusOneAtLevel
 exp-minus-one-levels = tt
 
 ln-one-plus-powers : T (every lnOnePlusAtPower 20 41)

@@ -2,24 +2,21 @@
 use Prim.Native.Nat.{ℕ, _-_, _^_}
 use mathlib.Core.Bool.{Bool, _&&_}
 use mathlib.Core.List.{List, [], _∷_}
-use lib.Ieee.{Float, nan, neg}
+use lib.Ieee.{nan, neg}
 use lib.Ieee.Scale.{finite}
-use Rattle.float.specs.Ops.{_⊗_, _⊘_, bits, whole, nought, one, infinite}
+use Rattle.float.specs.Ops.{bits, nought, one, infinite}
 use Rattle.float.specs.Claims.{same, every}
 use Rattle.elementary.specs.Exp.{powerOfTwoOf, expOf}
 use Rattle.elementary.specs.ExpMinusOne.{expMinusOneOf}
 use Rattle.elementary.specs.Ln.{lnOf}
 use Rattle.elementary.specs.LnOnePlus.{lnOnePlusOf}
+use Rattle.phred.specs.Phred.{phredToLnErrorProb}
 use Rattle.elementary_accuracy.specs.Fraction.{Fraction, value, ratio, plus, minus, times, power, atMost, within}
 
--- the logarithm of a Phred level's error, as phred_to_ln_error_prob computes it: -q · ln 10 / 10
-unfoldable pub pointOf : ℕ → Float
-pointOf q = neg (whole q) ⊗ bits 0x4002_6bb1_bbb5_5516 ⊘ bits 0x4024_0000_0000_0000
-
--- at the point x of the level q, with v = exp x: (v(1 - 2^-40))^10 · 10^q ≤ 1 ≤ (v(1 + 2^-40))^10 · 10^q
+-- at the point x = phred_to_ln_error_prob(q), with v = exp x: (v(1 - 2^-40))^10 · 10^q ≤ 1 ≤ (v(1 + 2^-40))^10 · 10^q
 unfoldable pub expAtLevel : ℕ → Bool
 expAtLevel q =
-    let v = expOf (pointOf q) in
+    let v = expOf (phredToLnErrorProb q) in
     let unit = ratio 1 1 in
     let slack = ratio 1 (2 ^ 40) in
     let scale = ratio (10 ^ q) 1 in
@@ -29,14 +26,14 @@ expAtLevel q =
 -- there ln v is within 2^-40 of x
 unfoldable pub lnAtLevel : ℕ → Bool
 lnAtLevel q =
-    let x = pointOf q in
+    let x = phredToLnErrorProb q in
     let y = lnOf (expOf x) in
     finite y && within (ratio 1 (2 ^ 40)) (value y) (value x)
 
 -- and exp(x) - 1, as computed at once, is within 2^-40 of v - 1
 unfoldable pub expMinusOneAtLevel : ℕ → Bool
 expMinusOneAtLevel q =
-    let x = pointOf q in
+    let x = phredToLnErrorProb q in
     let y = expMinusOneOf x in
     finite y && within (ratio 1 (2 ^ 40)) (value y) (minus (value (expOf x)) (ratio 1 1))
 

@@ -1,4 +1,4 @@
--- The lane that a sum starts from is the one that document 01 names, and one of the lanes. Assumes nothing.
+-- The lane that a sum starts from is the one that document 01 names, which names no other, and one of the lanes. Assumes nothing.
 use mathlib.Core.Path.{_≡_, refl, sym, ap, _∙_, subst}
 use mathlib.Core.Bool.{Bool, true, false, true≢false}
 use mathlib.Core.Logic.{_⊎_, inl, inr, ⊎-elim}
@@ -11,11 +11,11 @@ use lib.ListN.{length, getD, List·getD-eq-default}
 use borrow.Author.Tests.{ltb-true, ltb-false}
 use lib.Ieee.{Float, nan, inf, fin, lt, eq, div, ofBits}
 use Rattle.float.specs.Ops.{infinite, if_then_else_}
-use Rattle.float.proofs.Cases.{clash, refuted}
-use Rattle.float.proofs.Order.{nan-not-lt, lt-trans, lt-irrefl, eq-lt}
+use Rattle.float.proofs.Cases.{test, clash, refuted}
+use Rattle.float.proofs.Order.{nan-not-lt, lt-trans, lt-irrefl, lt-numbers, le-or, not-lt-le, eq-lt}
 use Rattle.phred.specs.declared.Lowest.{Lowest}
 use Rattle.phred.specs.Phred.{allLnZero, lowerOf, lowestFrom, startLane}
-use Rattle.phred.specs.Start.{Starts}
+use Rattle.phred.specs.Start.{Starts, OneStart}
 
 -- what is below something is below +infinity
 below-infinity : (x y : Float) → lt x y ≡ true → lt x infinite ≡ true
@@ -26,6 +26,10 @@ below-infinity (inf false) nan h = h
 below-infinity (inf false) (inf t) h = h
 below-infinity (inf false) (fin t n d) h = h
 below-infinity (fin s m e) y h = refl
+
+-- two lanes below +infinity are equal where neither is below the other
+neither-below : (x y : Float) → lt x infinite ≡ true → lt y infinite ≡ true → lt x y ≡ false → lt y x ≡ false → eq x y ≡ true
+neither-below x y p q h k = ⊎-elim (λ t. clash h t) (λ t. t) (le-or x y (not-lt-le y x (lt-numbers y infinite q .0) (lt-numbers x infinite p .0) k))
 
 -- a lane that is lower takes over, and else all stays
 lower-case : (l : Lowest) (i : ℕ) (x : Float)
@@ -102,6 +106,14 @@ module _ (xs : List Float) where
   lane : ℕ → Float
   lane j = getD xs j nan
 
+  -- of two lanes that these words name neither comes before the other: below +infinity the two are equal, and else the later one is lane 0
+  not-before : (s t : ℕ) → Starts xs s → Starts xs t → s < t → ⊥
+  unfolding lane
+  not-before s t a b k =
+      test (lt (lane s) infinite)
+      (λ h. clash (b .first s k) (neither-below (lane s) (lane t) h (b .below s h) (b .lowest s) (a .lowest t)))
+      (λ h. not-suc-le-zero (rw (b .lane-0 (λ j. refuted (lt (lane j) infinite) (λ u. clash h (a .below j u)))) at k))
+
   seen : Seen lane (startLane xs) (length xs)
   unfolding startLane lane
   seen = let e : 0 + length xs ≡ length xs = omega arith in subst (λ (n : ℕ). Seen lane (startLane xs) n) e (walk lane xs _ 0 (λ k. ap lane (sym (zero-add k))) (nothing-seen lane))
@@ -110,13 +122,21 @@ module _ (xs : List Float) where
   unfolding lane
   none-below j = ⊎-elim (λ h. rw (List·getD-eq-default xs nan h) (nan-not-lt _)) (λ h. seen .none j h) (place j (length xs))
 
-  pub starts : Starts xs (startLane xs .place)
+  starts : Starts xs (startLane xs .place)
   unfolding lane
   starts =
       record {
+        below = λ j h. ⊎-elim (λ w. clash (rw (w .0) at none-below j) h) (λ w. rw (w .1) at w .2) (seen .found);
         lowest = λ j. ⊎-elim (λ w. refuted (lt (lane j) (lane (startLane xs .place))) (λ t. clash (rw (w .0) at none-below j) (below-infinity (lane j) (lane (startLane xs .place)) t))) (λ w. rw (← w .1) (none-below j)) (seen .found);
         first = λ j k. ⊎-elim (λ w. absurd (not-suc-le-zero (rw (w .1) at k))) (λ w. rw (← w .1) (w .3 j k)) (seen .found);
         lane-0 = λ h. ⊎-elim (λ w. w .1) (λ w. clash (h (startLane xs .place)) (rw (w .1) at w .2)) (seen .found);
+      }
+
+  pub one-start : OneStart xs
+  one-start =
+      record {
+        starts = starts;
+        only = λ s t a b. ⊎-elim (λ h. ⊎-elim (λ e. sym e) (λ k. absurd (not-before t s b a k)) (eq-or-lt-of-le h)) (λ k. absurd (not-before s t a b k)) (place s t);
       }
 
 -- where not every lane is -infinity the start is one of them
