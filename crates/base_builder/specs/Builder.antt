@@ -5,7 +5,8 @@ use mathlib.Core.List.{List}
 use lib.Dec.{leb, ltb, eqb}
 use lib.ListN.{getD, replicate}
 use lib.Ieee.{Float, nan}
-use Rattle.float.specs.Ops.{nought, if_then_else_}
+use Rattle.float.specs.Ops.{nought}
+use Rattle.words.specs.Choice.{if_then_else_}
 use Rattle.phred.specs.Phred.{phredToLnErrorProb}
 use Rattle.phred.specs.declared.LogProbability.{LogProbability}
 use Rattle.tie_rules.specs.declared.tie_rule.TieRule.{TieRule}

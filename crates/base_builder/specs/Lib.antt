@@ -1,3 +1,4 @@
 pub mod Observation
 pub mod Builder
 pub mod Calls
+pub mod History

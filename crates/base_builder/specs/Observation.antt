@@ -2,7 +2,8 @@
 use Prim.Native.Nat.{ℕ, _+_, _%_, _^_}
 use lib.Dec.{eqb}
 use lib.Ieee.{Float}
-use Rattle.float.specs.Ops.{_⊕_, _⊖_, if_then_else_}
+use Rattle.float.specs.Ops.{_⊕_, _⊖_}
+use Rattle.words.specs.Choice.{if_then_else_}
 use Rattle.base_builder.specs.declared.observation.Sum.{Sum}
 
 -- Kahan's step: y = value - compensation; t = lane + y; compensation = (t - lane) - y; lane = t

@@ -5,7 +5,7 @@ use Rattle.rate_tables.specs.declared.adjusted.AdjustedProbabilityTables.{Adjus
 use Rattle.rate_tables.specs.Adjusted.{adjustedTables}
 use Rattle.gap_tables.specs.Gaps.{gapTables}
 use Rattle.base_builder.specs.declared.builder.ConsensusBaseBuilder.{ConsensusBaseBuilder}
-use Rattle.base_builder_history.specs.History.{step, run, after}
+use Rattle.base_builder.specs.History.{step, run, after}
 use Rattle.observation_windows.specs.Windows.{windowsOf, allAdded}
 use Rattle.observation_windows.proofs.Laws.{added-same}
 use Rattle.column_file.specs.declared.settings.Settings.{Settings}

@@ -5,7 +5,7 @@ use Rattle.lane_calls.specs.declared.call.Call.{Call}
 use Rattle.base_builder.specs.declared.builder.ConsensusBaseBuilder.{ConsensusBaseBuilder}
 use Rattle.base_builder.specs.Builder.{newAt, withRule}
 use Rattle.base_builder.specs.Calls.{callOf}
-use Rattle.base_builder_history.specs.History.{Event, add, after}
+use Rattle.base_builder.specs.History.{Event, add, after}
 use Rattle.column_file.specs.declared.settings.Settings.{Settings}
 use Rattle.column_file.specs.Format.{Observation}
 

@@ -7,8 +7,8 @@ use native.Mathlib.Omega.{arith}
 use borrow.Author.Tests.{ltb-true, ltb-false, le-leb, lt-leb, leb-true, leb-false, ne-eqb}
 use lib.Dec.{ltb, leb}
 use lib.ListN.{length, drop}
-use Rattle.float.proofs.Cases.{test, choice}
-use Rattle.lent_bytes.specs.Lists.{byteAt}
+use Rattle.words.proofs.Cases.{test, choice}
+use Rattle.words.specs.Lists.{byteAt}
 use Rattle.refusals.specs.declared.Refusal.{Refusal}
 use Rattle.refusals.specs.declared.Refusal.the-variants.{FileTooLong, CutOff, AbsentQuality}
 use Rattle.refusals.specs.declared.Verdict.{Verdict}

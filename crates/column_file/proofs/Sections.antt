@@ -6,8 +6,8 @@ use native.Mathlib.Omega.{arith}
 use borrow.Author.Tests.{leb-true, leb-false}
 use lib.Dec.{leb}
 use lib.ListN.{length, drop, length-drop}
-use Rattle.float.proofs.Cases.{test}
-use Rattle.lent_bytes.specs.Lists.{byteAt}
+use Rattle.words.proofs.Cases.{test}
+use Rattle.words.specs.Lists.{byteAt}
 use Rattle.refusals.specs.declared.Refusal.{Refusal}
 use Rattle.refusals.specs.declared.Refusal.the-variants.{CutOff}
 use Rattle.refusals.specs.declared.Verdict.{Verdict}

@@ -8,8 +8,8 @@ use borrow.Author.Tests.{ltb-true, ltb-false, le-leb, lt-leb, leb-true, leb-fals
 use lib.Dec.{ltb, leb, eqb}
 use lib.ListN.{length, take, drop, length-take, length-drop}
 use lib.Seq.{getD-take, getD-drop}
-use Rattle.float.proofs.Cases.{test, choice, both}
-use Rattle.lent_bytes.specs.Lists.{byteAt}
+use Rattle.words.proofs.Cases.{test, choice, both}
+use Rattle.words.specs.Lists.{byteAt}
 use Rattle.refusals.specs.declared.Refusal.{Refusal}
 use Rattle.refusals.specs.declared.Refusal.the-variants.{FileTooLong, CutOff, BadSettings}
 use Rattle.refusals.specs.Result.{Result, refused, accepted, andThen}

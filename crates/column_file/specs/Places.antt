@@ -4,8 +4,8 @@ use Prim.Native.Nat.{ℕ, zero, suc, _+_, _*_, _≤_}
 use mathlib.Core.List.{List, [], _∷_}
 use lib.Dec.{leb}
 use lib.ListN.{length, drop}
-use Rattle.float.specs.Ops.{if_then_else_}
-use Rattle.lent_bytes.specs.Lists.{byteAt}
+use Rattle.words.specs.Choice.{if_then_else_}
+use Rattle.words.specs.Lists.{byteAt}
 use Rattle.refusals.specs.declared.Refusal.the-variants.{CutOff}
 use Rattle.refusals.specs.declared.Verdict.{Verdict}
 use Rattle.refusals.specs.Refusals.{numberOf}

@@ -2,7 +2,7 @@
 ghost use mathlib.Core.Path.{_≡_};
 ghost use Prim.Native.Nat.{_+_, _≤_, _<_};
 ghost use lib.ListN.{length, take, drop};
-ghost use Rattle.lent_bytes.specs.Lists.{byteAt};
+ghost use Rattle.words.specs.Lists.{byteAt};
 ghost use Rattle.refusals.specs.Refusals.{numberIn};
 ghost use Rattle.column_file.specs.Reading.{settingsOf, readSettings};
 ghost use Rattle.column_file.specs.Places.{headOf, settledOf, settingsReadingOf, settingsNumber, wordAt};

@@ -8,8 +8,8 @@ use borrow.Author.Tests.{le-ltb, le-leb, ne-eqb, ltb-true, ltb-false, leb-true}
 use lib.Dec.{ltb, leb}
 use lib.ListN.{length, take-append-drop, length-append}
 use lib.Seq.{length-take-le, take-append-seam, drop-append-seam}
-use Rattle.float.proofs.Cases.{choice, both}
-use Rattle.lent_bytes.specs.Lists.{every}
+use Rattle.words.proofs.Cases.{choice, both}
+use Rattle.words.specs.Lists.{every}
 use Rattle.refusals.specs.declared.Refusal.the-variants.{FileTooLong, BadSettings}
 use Rattle.refusals.specs.declared.Verdict.{Verdict}
 use Rattle.refusals.specs.declared.Verdict.the-variants.{Sound, Refused}

@@ -5,13 +5,13 @@ use mathlib.Core.List.{List, [], _∷_}
 use Prim.Native.Nat.{ℕ, _≤_, _<_}
 use borrow.Author.Tests.{lt-ltb, le-ltb}
 use lib.ListN.{length}
-use Rattle.lent_bytes.specs.Lists.{any}
+use Rattle.words.specs.Lists.{any}
 use Rattle.refusals.specs.declared.Refusal.the-variants.{CutOff, AbsentQuality}
 use Rattle.refusals.specs.declared.Verdict.{Verdict}
 use Rattle.refusals.specs.declared.Verdict.the-variants.{Sound, Refused}
 use Rattle.refusals.specs.Refusals.{numberIn}
 use Rattle.refusals.specs.Result.{refused, accepted, orElse, firstRefused}
-use Rattle.float.specs.Ops.{if_then_else_}
+use Rattle.words.specs.Choice.{if_then_else_}
 use Rattle.string_set.specs.Readers.{alone}
 use Rattle.column_file.specs.Format.{Observation, Sections, sections}
 use Rattle.column_file.specs.Reading.{settingsOf, observationVerdict, columnVerdict, columnsVerdict, fileOf, readFile}

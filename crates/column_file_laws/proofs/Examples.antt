@@ -1,6 +1,6 @@
 -- Each input has its number, in one computed statement. Assumes nothing.
 use lib.Dec.{T}
-use Rattle.lent_bytes.specs.Lists.{every}
+use Rattle.words.specs.Lists.{every}
 use Rattle.string_set.specs.Readers.{byte, word, front, many}
 use Rattle.string_set.specs.StringSet.{string, stringSet}
 use Rattle.column_file.specs.Format.{observation, column, settings, columns, sections}

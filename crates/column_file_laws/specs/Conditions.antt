@@ -5,7 +5,7 @@ use mathlib.Core.List.{List}
 use Prim.Native.Nat.{ℕ, _≤_, _<_}
 use lib.Dec.{leb, eqb}
 use lib.ListN.{length}
-use Rattle.lent_bytes.specs.Lists.{any, byteAt}
+use Rattle.words.specs.Lists.{any, byteAt}
 use Rattle.refusals.specs.declared.Refusal.the-variants.{CutOff}
 use Rattle.refusals.specs.Refusals.{numberIn}
 use Rattle.refusals.specs.Result.{refused, accepted}

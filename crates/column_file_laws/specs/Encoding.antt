@@ -5,7 +5,7 @@ use mathlib.Core.List.{List, [], _∷_, _++_}
 use Prim.Native.Nat.{ℕ, _/_, _%_, _≤_}
 use lib.Dec.{ltb}
 use lib.ListN.{length}
-use Rattle.lent_bytes.specs.Lists.{every}
+use Rattle.words.specs.Lists.{every}
 use Rattle.refusals.specs.declared.Verdict.the-variants.{Sound}
 use Rattle.refusals.specs.Result.{accepted}
 use Rattle.tie_rules.specs.declared.tie_rule.TieRule.{TieRule}

@@ -8,7 +8,7 @@ use borrow.Author.Tests.{leb-true, eqb-true}
 use lib.Dec.{leb, eqb}
 use lib.Ieee.Bits.{is-true}
 use lib.ListN.{length, length-append}
-use Rattle.float.proofs.Cases.{test, both}
+use Rattle.words.proofs.Cases.{test, both}
 use Rattle.refusals.specs.declared.Refusal.{Refusal}
 use Rattle.refusals.specs.declared.Refusal.the-variants.{FileTooLong, CutOff, BadSettings, AbsentQuality, NoStrings, LengthsDiffer, NotAscii, UnlikeFirst, Mixed, BufferTooShort}
 use Rattle.refusals.specs.Refusals.{numberOf}
@@ -17,10 +17,10 @@ use Rattle.lent_text.proofs.Decimal.{decimal-length}
 use Rattle.tie_rules.specs.Lanes.{counted}
 use Rattle.lane_calls.specs.declared.call.Call.{Call}
 use Rattle.base_builder.specs.Builder.{total}
-use Rattle.base_builder_history.specs.Demand1.{isBase, isCall}
-use Rattle.base_builder_history.proofs.Demand1.{demand1}
-use Rattle.base_builder_history.specs.History.{after}
-use Rattle.base_builder_history.proofs.Laws.{laws}
+use Rattle.base_builder_laws.specs.Demand1.{isBase, isCall}
+use Rattle.base_builder_laws.proofs.Demand1.{demand1}
+use Rattle.base_builder.specs.History.{after}
+use Rattle.base_builder_laws.proofs.Laws.{laws}
 use Rattle.simple_umi.specs.Consensus.{Found}
 use Rattle.column_file.specs.declared.file.Places.{Places}
 use Rattle.column_file.specs.declared.settings.Settings.{Settings}

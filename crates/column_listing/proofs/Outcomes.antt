@@ -9,7 +9,7 @@ use lib.Dec.{leb, ltb}
 use lib.ListN.{length, take, drop}
 use lib.Seq.{take-append-seam}
 use lib.Ieee.{Float}
-use Rattle.float.proofs.Cases.{test, choice}
+use Rattle.words.proofs.Cases.{test, choice}
 use Rattle.lent_bytes.specs.Buffer.{replied, written}
 use Rattle.lent_bytes.proofs.Buffer.{short-written}
 use Rattle.lent_text.specs.Printed.{Printed}

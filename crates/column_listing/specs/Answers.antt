@@ -3,7 +3,7 @@ use Prim.Native.Nat.{ℕ}
 use mathlib.Core.List.{List}
 use lib.Dec.{ltb, leb}
 use lib.ListN.{length}
-use Rattle.float.specs.Ops.{if_then_else_}
+use Rattle.words.specs.Choice.{if_then_else_}
 use Rattle.lent_bytes.specs.Buffer.{written}
 use Rattle.refusals.specs.declared.Refusal.the-variants.{BufferTooShort}
 use Rattle.refusals.specs.Refusals.{numberOf}

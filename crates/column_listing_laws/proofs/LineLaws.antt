@@ -10,15 +10,15 @@ use lib.Dec.{leb, eqb}
 use lib.Ieee.Bits.{is-true}
 use lib.ListN.{length, getD, length-append, List·getD-append}
 use lib.Seq.{getD-append-seam}
-use Rattle.float.proofs.Cases.{test, both, clash, refuted}
-use Rattle.lent_bytes.specs.Lists.{any, lastOr}
-use Rattle.lent_bytes.proofs.Tests.{none-by-every}
+use Rattle.words.proofs.Cases.{test, both, clash, refuted}
+use Rattle.words.specs.Lists.{any, lastOr}
+use Rattle.words.proofs.Tests.{none-by-every}
 use Rattle.lent_text.specs.Text.{letters, newline, space, decimal, isDigit, line}
 use Rattle.lent_text.proofs.Decimal.{decimal-digits}
 use Rattle.tie_rules.specs.Lanes.{counted}
 use Rattle.lane_calls.specs.declared.call.Call.{Call}
-use Rattle.base_builder_history.specs.Demand1.{isBase, isCall}
-use Rattle.base_builder_history.proofs.Demand1.{demand1}
+use Rattle.base_builder_laws.specs.Demand1.{isBase, isCall}
+use Rattle.base_builder_laws.proofs.Demand1.{demand1}
 use Rattle.simple_umi.specs.Consensus.{Found}
 use Rattle.column_file.specs.declared.settings.Settings.{Settings}
 use Rattle.column_file.specs.Format.{Observation}

@@ -5,7 +5,7 @@ use Prim.Native.Nat.{ℕ, zero, suc, _+_, _≤_, _<_}
 use native.Mathlib.Omega.{arith}
 use lib.Dec.{leb, ltb}
 use lib.ListN.{length, take, drop, length-take, length-drop}
-use Rattle.float.proofs.Cases.{choice}
+use Rattle.words.proofs.Cases.{choice}
 use Rattle.refusals.specs.declared.Refusal.{Refusal}
 use Rattle.refusals.specs.declared.Verdict.{Verdict}
 use Rattle.refusals.specs.declared.Verdict.the-variants.{Sound, Refused}
@@ -88,6 +88,16 @@ answer-length c strings Sound u e =
     let same : found c strings ≡ u = cc in
     ap (λ (x : Found). length (x .text)) (sym same) ∙ answered c strings .as-long
 
+-- ---- the text
+
+-- some bytes, and few enough
+abbrev Short : List ℕ → Type 0
+Short t = (0 < length t) × (length t ≤ longest)
+
+by-refusal : (r : Refusal) → Short (refusalLine r)
+unfolding refusalLine
+by-refusal r = (omega arith, omega (arith, refusal-length r))
+
 module _ (s : List ℕ) where
   pub consensus-length : (f : File) (u : Found) → readFile s ≡ accepted f → consensusOf defaultCaller (f .strings) ≡ accepted u
       → columnsSize (f .columns) + length (u .text) ≤ 65536
@@ -102,14 +112,6 @@ module _ (s : List ℕ) where
         columns-inside s f e,
         file-size s f e,
       )
-
-  -- some bytes, and few enough
-  abbrev Short : List ℕ → Type 0
-  Short t = (0 < length t) × (length t ≤ longest)
-
-  by-refusal : (r : Refusal) → Short (refusalLine r)
-  unfolding refusalLine
-  by-refusal r = (omega arith, omega (arith, refusal-length r))
 
   by-strings : (f : File) → readFile s ≡ accepted f → (t : Result Found) → consensusOf defaultCaller (f .strings) ≡ t
       → Short (printed (andThen t (λ u. accepted (textOf (linesOf f u)))))

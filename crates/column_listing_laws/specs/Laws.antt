@@ -5,8 +5,8 @@ use mathlib.Core.List.{List, [], _∷_}
 use Prim.Native.Nat.{ℕ, _+_, _≤_, _<_}
 use lib.Dec.{eqb}
 use lib.ListN.{length, getD}
-use Rattle.float.specs.Ops.{if_then_else_}
-use Rattle.lent_bytes.specs.Lists.{any, lastOr, isEmpty}
+use Rattle.words.specs.Choice.{if_then_else_}
+use Rattle.words.specs.Lists.{any, lastOr, isEmpty}
 use Rattle.lent_text.specs.Text.{newline}
 use Rattle.simple_umi.specs.Consensus.{Found}
 use Rattle.column_file.specs.Reading.{File}

@@ -3,7 +3,7 @@ use mathlib.Core.Path.{_≡_, refl}
 use mathlib.Core.Bool.{true}
 use lib.Ieee.{Float, nan, lt, le, neg, div, ofBits}
 use Rattle.float.specs.Ops.{_⊘_, bits, nought, one}
-use Rattle.float.proofs.Cases.{and-false}
+use Rattle.words.proofs.Cases.{and-false}
 use Rattle.float.proofs.Order.{nan-not-lt, lt-asym, lt-trans, lt-not-eq, lt-not-le}
 use Rattle.elementary.specs.Ln.{lnOf}
 use Rattle.elementary.specs.LnOnePlus.{numberOf, lnOnePlusOf}

@@ -6,7 +6,7 @@ use Prim.Native.Nat.{_*_}
 use lib.Dec.{T, eqb}
 use lib.Ieee.{Float, nan, inf, fin, binary64, up, down, unlike, mul, lt, le, eq, isNan, ofBits}
 use Rattle.float.specs.Ops.{_⊗_, nought}
-use Rattle.float.proofs.Cases.{test, clash}
+use Rattle.words.proofs.Cases.{test, clash}
 use Rattle.float.proofs.Order.{lt-numbers, le-numbers, lt-trans, eq-lt, le-not-lt, le-or, not-lt-le, round-has, not-nan-add}
 use Rattle.elementary.specs.Exp.{shift, stepsOf}
 

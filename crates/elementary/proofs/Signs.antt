@@ -5,7 +5,7 @@ use mathlib.Core.Bool.{true, false, _&&_}
 use Prim.Native.Nat.{ℕ}
 use lib.Ieee.{Float, nan, lt, le, ne, isNan, div, ofBits}
 use Rattle.float.specs.Ops.{bits, nought, infinite}
-use Rattle.float.proofs.Cases.{test, choice, both}
+use Rattle.words.proofs.Cases.{test, choice, both}
 use Rattle.float.proofs.Order.{ne-self, nan-alone, nan-not-lt, le-numbers, le-not-lt}
 use Rattle.elementary.specs.Exp.{from0Of, lowest, farOf, stepsOf, powerAt, rowAt, inside, termOf, raisedOf, nearOf, expOf}
 use Rattle.elementary.specs.LnOnePlus.{numberOf, lnOnePlusOf}

@@ -4,7 +4,8 @@ use Prim.Native.Nat.{ℕ, _+_, _-_, _*_, _/_, _%_, _^_}
 use mathlib.Core.Bool.{Bool, _&&_}
 use lib.Dec.{leb, ltb}
 use lib.Ieee.{Float, binary64, toBits, lt, le, ne}
-use Rattle.float.specs.Ops.{_⊕_, _⊖_, _⊗_, bits, nought, infinite, if_then_else_}
+use Rattle.float.specs.Ops.{_⊕_, _⊖_, _⊗_, bits, nought, infinite}
+use Rattle.words.specs.Choice.{if_then_else_}
 use Rattle.elementary.specs.Fma.{fmaSmallProductOf}
 use Rattle.elementary_tables.specs.declared.exp_table.ExpRow.{ExpRow}
 use Rattle.elementary_tables.specs.ExpTable.{expRowOf}

@@ -1,7 +1,8 @@
 -- exp(x) - 1: for a y near 0 it is y + y²/2 and a correction; a little further below 0 it is (exp(y) - 1)/2 - 1/2 at y = x + ln 2. Definitions only.
 use lib.Ieee.{Float, eq, neg}
 use Rattle.elementary.specs.declared.exp_minus_one.Correction.{Correction}
-use Rattle.float.specs.Ops.{_⊕_, _⊖_, _⊗_, _⊘_, bits, nought, one, if_then_else_}
+use Rattle.float.specs.Ops.{_⊕_, _⊖_, _⊗_, _⊘_, bits, nought, one}
+use Rattle.words.specs.Choice.{if_then_else_}
 use Rattle.float.specs.Methods.{betweenOf}
 use Rattle.elementary.specs.Fma.{fmaSmallProductOf, fmaLargeProductOf}
 use Rattle.elementary.specs.Exp.{expOf}

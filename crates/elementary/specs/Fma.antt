@@ -1,6 +1,7 @@
 -- a·b + c with one rounding, from operations that round each time. Definitions only.
 use lib.Ieee.{Float, eq}
-use Rattle.float.specs.Ops.{_⊕_, _⊖_, _⊗_, bits, if_then_else_}
+use Rattle.float.specs.Ops.{_⊕_, _⊖_, _⊗_, bits}
+use Rattle.words.specs.Choice.{if_then_else_}
 
 -- the leading 26 digits of x (Veltkamp): the factor is 2^27 + 1
 unfoldable pub headOf : Float → Float

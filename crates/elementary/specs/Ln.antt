@@ -4,7 +4,8 @@ use Prim.Native.Nat.{_+_, _/_, _%_, _^_}
 use mathlib.Core.Bool.{_&&_}
 use lib.Ieee.{Float, binary64, toBits, lt, le, eq, neg}
 use Rattle.elementary_tables.specs.declared.ln_table.LnRow.{LnRow}
-use Rattle.float.specs.Ops.{_⊕_, _⊖_, _⊗_, _⊘_, bits, whole, nought, one, if_then_else_}
+use Rattle.float.specs.Ops.{_⊕_, _⊖_, _⊗_, _⊘_, bits, whole, nought, one}
+use Rattle.words.specs.Choice.{if_then_else_}
 use Rattle.elementary.specs.Fma.{fmaSmallProductOf}
 use Rattle.elementary_tables.specs.LnTable.{lnRowOf}
 use Rattle.elementary.specs.LnOnePlus.{lnOnePlusOf}

@@ -6,8 +6,9 @@ use lib.Dec.{T}
 use lib.Ieee.{mul, sub, div, ofBits, toBits, ofInt}
 use lib.ListN.{getD}
 use Rattle.float.specs.Ops.{_⊕_, _⊖_, _⊗_, _⊘_, bits, whole, one}
-use Rattle.float.specs.Claims.{same, every}
-use Rattle.float.proofs.Claims.{below}
+use Rattle.float.specs.Claims.{same}
+use Rattle.words.specs.Claims.{everyFrom}
+use Rattle.words.proofs.Claims.{below}
 use Rattle.elementary_tables.specs.LnTable.{inverses, lnRowOf}
 
 -- the head is what Veltkamp's splitting by 2^44 + 1 gives; the middle of part i is (257 + 2·i)/256
@@ -20,8 +21,8 @@ inTwoParts i =
     same (e .head) (t ⊖ (t ⊖ inverse)) && same (e .tail) (inverse ⊖ e .head)
     && same (e .offset) (middle ⊗ e .head ⊖ one ⊕ middle ⊗ e .tail)
 
-table : T (every inTwoParts 0 128)
-unfolding mul sub div ofBits toBits ofInt same every lnRowOf inTwoParts
+table : T (everyFrom inTwoParts 0 128)
+unfolding mul sub div ofBits toBits ofInt same everyFrom lnRowOf inTwoParts
 table = tt
 
 pub in-two-parts : (i : ℕ) → i < 128 → T (inTwoParts i)

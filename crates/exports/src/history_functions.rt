@@ -1,9 +1,9 @@
 // A script of a builder's calls: the reports that it asks for, or how long it takes.
 ghost use mathlib.Core.Path.{_≡_};
 ghost use Rattle.lent_bytes.specs.Buffer.{replied, written};
-ghost use Rattle.history_script.specs.Runs.{historyBytes};
-ghost use Rattle.history_script.specs.State.{builderScriptBytes};
-ghost use Rattle.script_times.specs.Times.{timesOf};
+ghost use Rattle.export_reports.specs.Runs.{historyBytes};
+ghost use Rattle.export_reports.specs.State.{builderScriptBytes};
+ghost use Rattle.export_timing.specs.Times.{timesOf};
 use phred::PhredScore;
 
 // On a new builder of two rates.
@@ -18,7 +18,7 @@ pub extern "C" fn consensus_history(
     ensures reply { λ r. ⌜ r ≡ replied (historyBytes pre post rule (now (script .entry))) (now (out .entry)) ⌝ }
     ensures lent { λ _. ⌜ now (out .exit) ≡ written (historyBytes pre post rule (now (script .entry))) (now (out .entry)) ⌝ }
 {
-    history_script::history(PhredScore(pre), PhredScore(post), rule, script, out)
+    export_reports::history(PhredScore(pre), PhredScore(post), rule, script, out)
 }
 
 // On a builder of 80 given bytes.
@@ -34,7 +34,7 @@ pub extern "C" fn consensus_builder(
     ensures reply { λ r. ⌜ r ≡ replied (builderScriptBytes pre post rule (now (state .entry)) (now (script .entry))) (now (out .entry)) ⌝ }
     ensures lent { λ _. ⌜ now (out .exit) ≡ written (builderScriptBytes pre post rule (now (state .entry)) (now (script .entry))) (now (out .entry)) ⌝ }
 {
-    history_script::from_state(PhredScore(pre), PhredScore(post), rule, state, script, out)
+    export_reports::from_state(PhredScore(pre), PhredScore(post), rule, state, script, out)
 }
 
 // For timing: so many runs, each on a new builder.
@@ -48,5 +48,5 @@ pub extern "C" fn consensus_history_times(
 ) -> u64
     ensures { λ r. ⌜ r ≡ timesOf pre post rule (now (script .entry)) times ⌝ }
 {
-    script_times::times(PhredScore(pre), PhredScore(post), rule, script, times)
+    export_timing::times(PhredScore(pre), PhredScore(post), rule, script, times)
 }

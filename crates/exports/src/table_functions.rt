@@ -1,7 +1,7 @@
 // The tables of a pair of rates, as bytes.
 ghost use mathlib.Core.Path.{_≡_};
 ghost use Rattle.lent_bytes.specs.Buffer.{replied, written};
-ghost use Rattle.table_bytes.specs.Tables.{tableBytes};
+ghost use Rattle.export_tables.specs.Tables.{tableBytes};
 use phred::PhredScore;
 
 // Into a buffer of 3,016 bytes or more.
@@ -10,5 +10,5 @@ pub extern "C" fn consensus_tables(pre: u8, post: u8, out: &mut [u8]) -> u64
     ensures reply { λ r. ⌜ r ≡ replied (tableBytes pre post) (now (out .entry)) ⌝ }
     ensures lent { λ _. ⌜ now (out .exit) ≡ written (tableBytes pre post) (now (out .entry)) ⌝ }
 {
-    table_bytes::tables(PhredScore(pre), PhredScore(post), out)
+    export_tables::tables(PhredScore(pre), PhredScore(post), out)
 }

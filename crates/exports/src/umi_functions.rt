@@ -1,8 +1,8 @@
 // The consensus of UMI strings, by the number of the function.
 ghost use mathlib.Core.Path.{_≡_};
 ghost use Rattle.simple_umi.specs.Consensus.{callerAt};
-ghost use Rattle.umi_replies.specs.Codes.{umiReply, umiBuffer};
-ghost use Rattle.umi_replies.specs.Sent.{callerReply, callerBuffer};
+ghost use Rattle.export_umi.specs.Codes.{umiReply, umiBuffer};
+ghost use Rattle.export_umi.specs.Sent.{callerReply, callerBuffer};
 use phred::PhredScore;
 
 // At the defaults.
@@ -11,7 +11,7 @@ pub extern "C" fn consensus_umi(which: u8, set: &[u8], out: &mut [u8]) -> u64
     ensures reply { λ r. ⌜ r ≡ umiReply which (now (set .entry)) (now (out .entry)) ⌝ }
     ensures lent { λ _. ⌜ now (out .exit) ≡ umiBuffer which (now (set .entry)) (now (out .entry)) ⌝ }
 {
-    umi_replies::umi(which, set, out)
+    export_umi::umi(which, set, out)
 }
 
 // Of a new caller, with its builder afterwards.
@@ -27,7 +27,7 @@ pub extern "C" fn consensus_umi_caller(
     ensures reply { λ r. ⌜ r ≡ callerReply which (callerAt pre post quality) (now (set .entry)) (now (out .entry)) ⌝ }
     ensures lent { λ _. ⌜ now (out .exit) ≡ callerBuffer which (callerAt pre post quality) (now (set .entry)) (now (out .entry)) ⌝ }
 {
-    umi_replies::umi_caller(
+    export_umi::umi_caller(
         PhredScore(pre),
         PhredScore(post),
         PhredScore(quality),

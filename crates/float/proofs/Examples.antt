@@ -5,7 +5,8 @@ use Prim.Native.Nat.{_-_, _^_}
 use lib.Dec.{T, eqb}
 use lib.Ieee.{nan, neg, div, lt, isNan, ofBits, toBits}
 use lib.Ieee.Scale.{finite}
-use Rattle.float.specs.Claims.{same, all}
+use Rattle.float.specs.Claims.{same}
+use Rattle.words.specs.Claims.{all}
 use Rattle.float.specs.Ops.{bits, nought, one, infinite}
 use Rattle.float.specs.Methods.{absOf, maxOf, betweenOf, floorOf}
 

@@ -1,5 +1,3 @@
-pub mod Cases
-pub mod Arms
 pub mod Order
 pub mod Patterns
 pub mod Finite
@@ -7,5 +5,4 @@ pub mod Floor
 pub mod Sums
 pub mod Turned
 pub mod Gap
-pub mod Claims
 pub mod Examples

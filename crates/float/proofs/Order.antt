@@ -12,7 +12,7 @@ use lib.Ieee.Fits.{down-pos, round-is}
 use lib.Ieee.Positive.{first-pos}
 use lib.Ieee.Scale.{finite}
 use borrow.Author.Tests.{ltb-true, ltb-false, lt-ltb, le-ltb, eq-eqb, eqb-true}
-use Rattle.float.proofs.Cases.{test, clash, refuted, both}
+use Rattle.words.proofs.Cases.{test, clash, refuted, both}
 use Rattle.float.specs.Ops.{_⊕_}
 
 -- a test that cannot have passed

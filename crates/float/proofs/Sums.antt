@@ -18,7 +18,7 @@ use lib.Ieee.Order.{round-mono}
 use lib.Ieee.Scale.{round-same, finite}
 use borrow.Author.Tests.{ltb-false, le-ltb, eqb-true}
 use Rattle.float.specs.Ops.{_⊕_, _⊖_, nought, infinite}
-use Rattle.float.proofs.Cases.{both}
+use Rattle.words.proofs.Cases.{both}
 use Rattle.float.proofs.Finite.{round-zero}
 use Rattle.float.proofs.Order.{none-below, le-not-lt, lt-neg, round-has}
 

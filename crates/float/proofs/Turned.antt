@@ -11,7 +11,7 @@ use lib.Ieee.Fits.{down-pos}
 use borrow.Author.Tests.{ltb-false, le-ltb}
 use Rattle.float.specs.Ops.{_⊖_}
 use Rattle.float.specs.Methods.{absOf}
-use Rattle.float.proofs.Cases.{test}
+use Rattle.words.proofs.Cases.{test}
 use Rattle.float.proofs.Finite.{round-zero}
 use Rattle.float.proofs.Order.{round-has}
 use Rattle.float.proofs.Sums.{round-neg}

@@ -2,7 +2,7 @@
 use Prim.Native.Nat.{ℕ, _-_, _*_, _/_, _^_, min}
 use mathlib.Core.Bool.{Bool, true, false, _&&_}
 use lib.Ieee.{Float, nan, inf, fin, up, down, lt, isNan}
-use Rattle.float.specs.Ops.{if_then_else_}
+use Rattle.words.specs.Choice.{if_then_else_}
 
 -- x without its sign, so that of -0.0 it is 0.0
 unfoldable pub absOf : Float → Float

@@ -14,7 +14,7 @@ use lib.Ieee.Bits.{is-true, is-false}
 use lib.Ieee.Scale.{finite}
 use borrow.Author.Tests.{leb-true, le-leb, le-ltb}
 use Rattle.float.specs.Ops.{infinite}
-use Rattle.float.proofs.Cases.{clash, choice}
+use Rattle.words.proofs.Cases.{clash, choice}
 use Rattle.float.proofs.Order.{le-self, le-le, not-lt-le}
 use Rattle.gap_tables.specs.declared.thresholds.Ends.{Ends}
 use Rattle.gap_tables.specs.Thresholds.{gap0, gap256, reaches, middle, halved, halvings, thresholdWith, threshold, Thresholds}

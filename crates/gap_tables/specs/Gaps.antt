@@ -4,7 +4,8 @@ use mathlib.Core.List.{List, [], _∷_}
 use lib.Dec.{ltb}
 use lib.ListN.{getD}
 use lib.Ieee.{Float, nan, neg}
-use Rattle.float.specs.Ops.{_⊕_, _⊗_, _⊘_, bits, nought, one, if_then_else_}
+use Rattle.float.specs.Ops.{_⊕_, _⊗_, _⊘_, bits, nought, one}
+use Rattle.words.specs.Choice.{if_then_else_}
 use Rattle.elementary.specs.Exp.{expOf}
 use Rattle.phred.specs.Phred.{phredToLnErrorProb, lnProbToPhred, lnErrorProbTwoTrials, lnSumExpArray, lnNormalize, lnNot}
 use Rattle.gap_tables.specs.declared.gaps.UnanimousGapTables.{UnanimousGapTables}

@@ -7,7 +7,8 @@ use lib.Dec.{T, leb}
 use lib.Ieee.{Float, le, eq}
 use lib.Ieee.Scale.{finite}
 use Rattle.gap_tables.specs.declared.thresholds.Ends.{Ends}
-use Rattle.float.specs.Ops.{_⊕_, _⊗_, bits, nought, infinite, if_then_else_}
+use Rattle.float.specs.Ops.{_⊕_, _⊗_, bits, nought, infinite}
+use Rattle.words.specs.Choice.{if_then_else_}
 
 -- the narrowest gap and the widest
 abbrev pub gap0 : Float

@@ -8,7 +8,7 @@ use lib.Dec.{ltb}
 use lib.Ieee.{Float}
 use lib.Ieee.Scale.{finite}
 use borrow.Author.Tests.{ltb-true, lt-ltb, le-ltb}
-use Rattle.float.specs.Ops.{if_then_else_}
+use Rattle.words.specs.Choice.{if_then_else_}
 use Rattle.tie_rules.specs.declared.tie_rule.TieRule.{TieRule}
 use Rattle.tie_rules.specs.Lanes.{lane, noLane}
 use Rattle.tie_rules.specs.Ties.{untied, noneAbove, uniqueMaxIndexWith}

@@ -5,7 +5,8 @@ use mathlib.Core.List.{List}
 use lib.Dec.{ltb, eqb}
 use lib.Ieee.{Float}
 use lib.Ieee.Scale.{finite}
-use Rattle.float.specs.Ops.{_⊕_, _⊖_, _⊗_, _⊘_, bits, nought, if_then_else_}
+use Rattle.float.specs.Ops.{_⊕_, _⊖_, _⊗_, _⊘_, bits, nought}
+use Rattle.words.specs.Choice.{if_then_else_}
 use Rattle.float.specs.Methods.{absOf, maxOf}
 use Rattle.elementary.specs.Exp.{expOf}
 use Rattle.elementary.specs.Ln.{lnOf}

@@ -8,7 +8,7 @@ use native.Mathlib.Omega.{arith}
 use borrow.Author.Tests.{le-leb, lt-leb}
 use lib.ListN.{length, drop, set, drop-of-length-le}
 use lib.Seq.{sets, sets-eq}
-use Rattle.lent_bytes.specs.Lists.{byteAt}
+use Rattle.words.specs.Lists.{byteAt}
 use Rattle.lent_bytes.specs.Buffer.{written}
 use Rattle.lent_bytes.proofs.Lists.{bytes-from}
 

@@ -1,4 +1,3 @@
 pub mod Lists
 pub mod Buffer
 pub mod Same
-pub mod Tests

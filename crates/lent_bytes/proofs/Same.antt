@@ -8,8 +8,8 @@ use lib.Dec.{eqb}
 use lib.ListN.{length, drop, getD, drop-of-length-le}
 use lib.Seq.{drop-cons}
 use borrow.Author.Tests.{eqb-true, eq-eqb, ne-eqb}
-use Rattle.float.proofs.Cases.{both, clash, and-false}
-use Rattle.lent_bytes.specs.Lists.{sameBytes}
+use Rattle.words.proofs.Cases.{both, clash, and-false}
+use Rattle.words.specs.Lists.{sameBytes}
 
 module _ (a b : List ℕ) (i : ℕ) where
   -- two bytes that are the same: the others decide

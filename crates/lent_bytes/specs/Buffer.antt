@@ -3,7 +3,7 @@ use Prim.Native.Nat.{ℕ}
 use mathlib.Core.List.{List, _++_}
 use lib.Dec.{leb}
 use lib.ListN.{length, drop}
-use Rattle.float.specs.Ops.{if_then_else_}
+use Rattle.words.specs.Choice.{if_then_else_}
 
 -- the bytes and then what was there, or, where it is too short, what it held
 unfoldable pub written : List ℕ → List ℕ → List ℕ

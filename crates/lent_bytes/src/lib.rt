@@ -5,7 +5,7 @@ ghost use Prim.Native.Nat.{_+_, _≤_, _<_};
 ghost use lib.Dec.{leb};
 ghost use lib.ListN.{length};
 ghost use lib.Seq.{sets};
-ghost use Rattle.lent_bytes.specs.Lists.{sameBytes};
+ghost use Rattle.words.specs.Lists.{sameBytes};
 ghost use Rattle.lent_bytes.specs.Buffer.{written};
 
 // A byte as a number of the size of places.

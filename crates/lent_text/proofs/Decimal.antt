@@ -8,8 +8,8 @@ use native.Mathlib.Omega.{arith}
 use borrow.Author.Tests.{lt-ltb, le-ltb, le-leb, ltb-true, ltb-false}
 use lib.Dec.{ltb}
 use lib.ListN.{length, length-append}
-use Rattle.float.proofs.Cases.{test, both}
-use Rattle.lent_bytes.specs.Lists.{every}
+use Rattle.words.proofs.Cases.{test, both}
+use Rattle.words.specs.Lists.{every}
 use Rattle.lent_text.specs.Text.{digits, decimal, isDigit}
 
 -- where enough digits are allowed, it does not matter how many are

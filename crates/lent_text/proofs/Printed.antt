@@ -8,7 +8,7 @@ use borrow.Author.Tests.{leb-true, leb-false}
 use lib.Dec.{leb}
 use lib.ListN.{length, length-append}
 use lib.Seq.{sets, set-out, length-sets}
-use Rattle.float.proofs.Cases.{test}
+use Rattle.words.proofs.Cases.{test}
 use Rattle.lent_bytes.specs.Buffer.{written}
 use Rattle.lent_bytes.proofs.Buffer.{sets-append, fits-written}
 use Rattle.lent_text.specs.Printed.{Printed, lastPlace}

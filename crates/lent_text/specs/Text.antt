@@ -5,7 +5,7 @@ use Prim.Native.String.{String, [] as none, _∷_ as _then_}
 use mathlib.Core.Bool.{Bool, _&&_}
 use mathlib.Core.List.{List, [], _∷_, _++_}
 use lib.Dec.{ltb, leb}
-use Rattle.float.specs.Ops.{if_then_else_}
+use Rattle.words.specs.Choice.{if_then_else_}
 
 -- the codes of a text's letters
 abbrev pub letters : String → List ℕ

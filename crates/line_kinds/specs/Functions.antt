@@ -5,7 +5,7 @@ use Rattle.line_kinds.specs.declared.functions.Function.{Function}
 use Rattle.line_kinds.specs.declared.functions.Function.the-variants.{Exp, Ln, LnOnePlus, ExpMinusOne, PhredToLnErrorProb, PhredToLnCorrectProb, LnProbToPhred, LogOnePlusExp, LnOneMinusExp, LnAMinusB, LnErrorProbTwoTrials, LnSumExp, LnSumExpArray, LnNormalize, LnNot}
 use Rattle.line_kinds.specs.declared.functions.Kind.{Kind}
 use Rattle.line_kinds.specs.declared.functions.Kind.the-variants.{Answer, Builder, Listing, Unknown}
-use Rattle.float.specs.Ops.{if_then_else_}
+use Rattle.words.specs.Choice.{if_then_else_}
 
 -- no line has more bytes
 abbrev pub longest : ℕ

@@ -4,8 +4,9 @@ use mathlib.Core.Bool.{Bool, true, false, _||_}
 use Prim.Native.Nat.{ℕ, _-_, _/_, _%_, _<_}
 use borrow.Author.Tests.{eqb-true}
 use lib.Dec.{ltb, eqb}
-use Rattle.float.specs.Ops.{if_then_else_}
-use Rattle.tie_rules.specs.Lanes.{noLane, allBelow, laneOfByte}
+use Rattle.words.specs.Choice.{if_then_else_}
+use Rattle.tie_rules.specs.Lanes.{noLane, laneOfByte}
+use Rattle.words.specs.Claims.{allBelow}
 use Rattle.tie_rules.proofs.Lanes.{below-at}
 
 -- by the two bits

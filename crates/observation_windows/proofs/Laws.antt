@@ -7,9 +7,9 @@ use borrow.Author.Tests.{eqb-true, eqb-false, eq-eqb, ne-eqb}
 use lib.Dec.{eqb}
 use lib.ListN.{getD}
 use lib.Ieee.{Float, nan}
-use Rattle.float.specs.Ops.{if_then_else_}
-use Rattle.float.proofs.Cases.{test}
-use Rattle.rate_tables.proofs.Filled.{level-at}
+use Rattle.words.specs.Choice.{if_then_else_}
+use Rattle.words.proofs.Cases.{test}
+use Rattle.words.proofs.Listed.{level-at}
 use Rattle.tie_rules.specs.Lanes.{lanes, noLane, laneOfByte}
 use Rattle.tie_rules.proofs.Lanes.{lane-of-byte}
 use Rattle.base_builder.specs.declared.builder.ConsensusBaseBuilder.{ConsensusBaseBuilder}

@@ -5,8 +5,8 @@ use mathlib.Core.List.{List, [], _∷_}
 use lib.Dec.{eqb}
 use lib.ListN.{getD}
 use lib.Ieee.{Float, nan}
-use Rattle.float.specs.Ops.{if_then_else_}
-use Rattle.rate_tables.specs.Tables.{listed}
+use Rattle.words.specs.Choice.{if_then_else_}
+use Rattle.words.specs.Lists.{listed}
 use Rattle.tie_rules.specs.Lanes.{lanes, noLane, laneOfByte, counted}
 use Rattle.base_builder.specs.declared.observation.Sum.{Sum}
 use Rattle.base_builder.specs.declared.builder.ConsensusBaseBuilder.{ConsensusBaseBuilder}

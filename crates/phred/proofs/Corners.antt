@@ -3,7 +3,8 @@ use mathlib.Core.Path.{_≡_, refl}
 use lib.Dec.{T}
 use lib.Ieee.{add, sub, mul, div, neg, lt, le, eq, ne, isNan, ofBits, toBits, ofInt}
 use Rattle.float.specs.Ops.{nought}
-use Rattle.float.specs.Claims.{same, all, every}
+use Rattle.float.specs.Claims.{same}
+use Rattle.words.specs.Claims.{all, everyFrom}
 use Rattle.float.specs.Methods.{absOf, betweenOf, floorOf}
 use Rattle.elementary_tables.specs.ExpTable.{expRowOf}
 use Rattle.elementary_tables.specs.LnTable.{lnRowOf}
@@ -16,7 +17,7 @@ use Rattle.phred.specs.Phred.{log1pexpZero, phredToLnErrorProb, lnOneMin
 use Rattle.phred.specs.Corners.{comesBack, corners}
 
 pub all-corners : T (all corners)
-unfolding add sub mul div neg lt le eq ne isNan ofBits toBits ofInt headOf lostOf productErrorOf fmaSmallProductOf fmaLargeProductOf expRowOf seriesOf powerOfTwoOf scaledOf from0Of nearOf expOf absOf betweenOf floorOf lnRowOf ratioOf normalOf reducedOf expansionOf joinedOf numberOf lnOnePlusOf lnOf correctionOf nearZeroOf shiftedOf expMinusOneOf phredToLnErrorProb lnOneMinusExp phredToLnCorrectProb lnProbToPhred log1pexpOf lnAMinusB lnSumExpGeneral lnSumExp twoTrials lnErrorProbTwoTrials allLnZero lowerOf lowestFrom startLane sums sumFrom lnSumExpArray same every comesBack
+unfolding add sub mul div neg lt le eq ne isNan ofBits toBits ofInt headOf lostOf productErrorOf fmaSmallProductOf fmaLargeProductOf expRowOf seriesOf powerOfTwoOf scaledOf from0Of nearOf expOf absOf betweenOf floorOf lnRowOf ratioOf normalOf reducedOf expansionOf joinedOf numberOf lnOnePlusOf lnOf correctionOf nearZeroOf shiftedOf expMinusOneOf phredToLnErrorProb lnOneMinusExp phredToLnCorrectProb lnProbToPhred log1pexpOf lnAMinusB lnSumExpGeneral lnSumExp twoTrials lnErrorProbTwoTrials allLnZero lowerOf lowestFrom startLane sums sumFrom lnSumExpArray same everyFrom comesBack
 all-corners = tt
 
 -- log1pexp(0) is ln 2 bit for bit, for either zero

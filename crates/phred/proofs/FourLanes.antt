@@ -6,7 +6,7 @@ use native.Mathlib.Omega.{arith}
 use lib.ListN.{length, getD}
 use lib.Ieee.{Float, nan, inf, fin, lt, eq, neg, div, ofBits}
 use Rattle.float.specs.Ops.{infinite}
-use Rattle.float.proofs.Cases.{test, clash, both}
+use Rattle.words.proofs.Cases.{test, clash, both}
 use Rattle.phred.specs.Phred.{lnZero, lnSumExp, allLnZero, lowerOf, lowestFrom, startLane, sums, sumFrom, lnSumExpArray}
 use Rattle.phred.specs.FourLanes.{leastOf, firstTwo, firstThree, sumOfFour, sumOfLanes}
 

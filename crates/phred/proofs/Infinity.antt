@@ -10,7 +10,7 @@ use lib.ListN.{length, getD, take, drop}
 use lib.Ieee.{Float, nan, binary64, fits, lt, le, eq, neg, div, ofBits, isNan}
 use lib.Ieee.Fits.{add-fits, sub-fits}
 use Rattle.float.specs.Ops.{_⊕_, _⊖_, bits, nought}
-use Rattle.float.proofs.Cases.{test, clash, choice, both}
+use Rattle.words.proofs.Cases.{test, clash, choice, both}
 use Rattle.float.proofs.Order.{ne-self, lt-trans, lt-le, le-numbers, not-lt-le}
 use Rattle.float.proofs.Sums.{add-not-below, add-not-minus-infinity}
 use Rattle.elementary.specs.Exp.{expOf}

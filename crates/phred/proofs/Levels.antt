@@ -2,7 +2,7 @@
 use Prim.Native.Nat.{ℕ, _≤_}
 use native.Mathlib.Omega.{arith}
 use lib.Ieee.{Float, lt, isNan}
-use Rattle.float.proofs.Cases.{choice}
+use Rattle.words.proofs.Cases.{choice}
 use Rattle.phred.specs.Phred.{held, maxPhredAsLnError, lnProbToPhred}
 
 -- from 2 to 93

@@ -10,8 +10,9 @@ use lib.Dec.{ltb}
 use lib.ListN.{length, getD, List·getD-eq-default}
 use borrow.Author.Tests.{ltb-true, ltb-false}
 use lib.Ieee.{Float, nan, inf, fin, lt, eq, div, ofBits}
-use Rattle.float.specs.Ops.{infinite, if_then_else_}
-use Rattle.float.proofs.Cases.{test, clash, refuted}
+use Rattle.float.specs.Ops.{infinite}
+use Rattle.words.specs.Choice.{if_then_else_}
+use Rattle.words.proofs.Cases.{test, clash, refuted}
 use Rattle.float.proofs.Order.{nan-not-lt, lt-trans, lt-irrefl, lt-numbers, le-or, not-lt-le, eq-lt}
 use Rattle.phred.specs.declared.Lowest.{Lowest}
 use Rattle.phred.specs.Phred.{allLnZero, lowerOf, lowestFrom, startLane}

@@ -5,7 +5,8 @@ use mathlib.Core.List.{List, [], _∷_}
 use lib.Dec.{eqb}
 use lib.Ieee.{nan, neg, isNan}
 use Rattle.float.specs.Ops.{nought, one, infinite}
-use Rattle.float.specs.Claims.{same, every}
+use Rattle.float.specs.Claims.{same}
+use Rattle.words.specs.Claims.{everyFrom}
 use Rattle.phred.specs.Phred.{log1pexpZero, lnZero, held, phredToLnErrorProb, phredToLnCorrectProb, lnProbToPhred, log1pexpOf, lnErrorProbTwoTrials, lnSumExpArray}
 
 -- a level, made a logarithm and a level again, is itself, held to 2 .. 93
@@ -13,7 +14,7 @@ unfoldable pub comesBack : ℕ → Bool
 comesBack q = eqb (lnProbToPhred (phredToLnErrorProb q)) (held q)
 
 -- In turn: the level of NaN, of the infinities, of -0.0, of 0.0; the logarithms of level 0; log1pexp(0) bit for bit; the panic of the Rust at the logarithms
--- (1, 1); the sum of no lanes, of lanes that are all -infinity, and of one lane that is not; every level from 0 to 93 comes back.
+-- (1, 1); the sum of no lanes, of lanes that are all -infinity, and of one lane that is not; everyFrom level from 0 to 93 comes back.
 abbrev pub corners : List Bool
 corners =
     eqb (lnProbToPhred nan) 2
@@ -28,5 +29,5 @@ corners =
     ∷ same (lnSumExpArray []) lnZero
     ∷ same (lnSumExpArray (lnZero ∷ lnZero ∷ lnZero ∷ lnZero ∷ [])) lnZero
     ∷ same (lnSumExpArray (lnZero ∷ neg one ∷ lnZero ∷ lnZero ∷ [])) (neg one)
-    ∷ every comesBack 0 94
+    ∷ everyFrom comesBack 0 94
     ∷ []

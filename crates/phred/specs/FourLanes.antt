@@ -1,6 +1,7 @@
 -- The sum of four lanes as it is run: the lane to start from is moved to the front as the lanes are met. Definitions only.
 use lib.Ieee.{Float, lt}
-use Rattle.float.specs.Ops.{infinite, if_then_else_}
+use Rattle.float.specs.Ops.{infinite}
+use Rattle.words.specs.Choice.{if_then_else_}
 use Rattle.phred.specs.declared.four_lanes.FirstTwo.{FirstTwo}
 use Rattle.phred.specs.declared.four_lanes.FirstThree.{FirstThree}
 use Rattle.phred.specs.Phred.{lnSumExp}

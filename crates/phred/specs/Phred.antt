@@ -5,7 +5,8 @@ use mathlib.Core.Bool.{Bool, true, _&&_}
 use mathlib.Core.List.{List, [], _∷_, _++_}
 use lib.ListN.{getD, take, drop}
 use lib.Ieee.{Float, nan, lt, le, eq, neg, isNan}
-use Rattle.float.specs.Ops.{_⊕_, _⊖_, _⊗_, _⊘_, bits, whole, nought, one, infinite, if_then_else_}
+use Rattle.float.specs.Ops.{_⊕_, _⊖_, _⊗_, _⊘_, bits, whole, nought, one, infinite}
+use Rattle.words.specs.Choice.{if_then_else_}
 use Rattle.float.specs.Methods.{absOf, floorOf}
 use Rattle.elementary.specs.Exp.{expOf}
 use Rattle.elementary.specs.ExpMinusOne.{expMinusOneOf}

@@ -9,7 +9,7 @@ use lib.Dec.{ltb}
 use lib.ListN.{length, take, drop, getD, set, drop-of-length-le}
 use lib.Seq.{drop-cons, append-snoc, take-suc-set}
 use borrow.Author.Tests.{ltb-true, lt-ltb, le-ltb}
-use Rattle.float.proofs.Cases.{both}
+use Rattle.words.proofs.Cases.{both}
 use Rattle.replay.specs.Hex.{digitOf}
 use Rattle.replay.specs.Fields.{areDigits, byteOf, bytesOf}
 

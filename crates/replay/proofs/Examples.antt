@@ -7,8 +7,8 @@ use lib.ListN.{replicate}
 use lib.Ieee.{neg, div, lt, ne, eq, ofBits, toBits}
 use Rattle.io.specs.Digits.{digits}
 use Rattle.elementary.specs.Exp.{expOf}
-use Rattle.history_script.specs.Runs.{scriptBytes}
-use Rattle.history_script.specs.State.{builderScriptBytes}
+use Rattle.export_reports.specs.Runs.{scriptBytes}
+use Rattle.export_reports.specs.State.{builderScriptBytes}
 use Rattle.column_listing.specs.Listing.{listingOf}
 use Rattle.phred.specs.Phred.{allLnZero, lnSumExpArray}
 use Rattle.replay.specs.declared.hex.Written.the-variants.{Number, NoNumber}

@@ -8,7 +8,7 @@ use lib.Dec.{eqb}
 use lib.ListN.{length, take, drop, getD, length-take, length-drop}
 use lib.Seq.{take-all}
 use borrow.Author.Tests.{eqb-true}
-use Rattle.float.proofs.Cases.{both}
+use Rattle.words.proofs.Cases.{both}
 use Rattle.replay.specs.Fields.{areDigits, isField}
 use Rattle.replay.specs.Builders.{ratesIn, stateIn, scriptIn, reportIn, isBuilderLine}
 use Rattle.replay.specs.Listings.{fileIn, textIn, isListingLine}

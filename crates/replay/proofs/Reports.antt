@@ -7,11 +7,11 @@ use native.Mathlib.Omega.{arith}
 use lib.Dec.{eqb, leb}
 use lib.ListN.{length, drop-of-length-le}
 use borrow.Author.Tests.{leb-false, eq-eqb, ne-eqb}
-use Rattle.float.specs.Ops.{if_then_else_}
-use Rattle.float.proofs.Cases.{test}
+use Rattle.words.specs.Choice.{if_then_else_}
+use Rattle.words.proofs.Cases.{test}
 use Rattle.lent_bytes.specs.Buffer.{replied, written}
 use Rattle.replay.specs.declared.lines.Verdict.the-variants.{Equal, Differs, NotAnAnswer}
-use Rattle.lent_bytes.specs.Lists.{sameBytes}
+use Rattle.words.specs.Lists.{sameBytes}
 use Rattle.replay.specs.Builders.{besideScript}
 
 module _ (bs out : List ℕ) (h : length out ≡ 91) where

@@ -8,7 +8,8 @@ use Rattle.line_kinds.specs.declared.functions.Function.{Function}
 use Rattle.line_kinds.specs.declared.functions.Function.the-variants.{Exp, Ln, LnOnePlus, ExpMinusOne, PhredToLnErrorProb, PhredToLnCorrectProb, LnProbToPhred, LogOnePlusExp, LnOneMinusExp, LnAMinusB, LnErrorProbTwoTrials, LnSumExp, LnSumExpArray, LnNormalize, LnNot}
 use Rattle.replay.specs.declared.hex.Written.{Written}
 use Rattle.replay.specs.declared.hex.Written.the-variants.{Number, NoNumber}
-use Rattle.float.specs.Ops.{bits, if_then_else_}
+use Rattle.float.specs.Ops.{bits}
+use Rattle.words.specs.Choice.{if_then_else_}
 use Rattle.elementary.specs.Exp.{expOf}
 use Rattle.elementary.specs.Ln.{lnOf}
 use Rattle.elementary.specs.LnOnePlus.{lnOnePlusOf}

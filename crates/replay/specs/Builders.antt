@@ -4,9 +4,9 @@ use mathlib.Core.Bool.{Bool, _&&_}
 use mathlib.Core.List.{List}
 use lib.Dec.{eqb}
 use lib.ListN.{length, take, drop, getD}
-use Rattle.lent_bytes.specs.Lists.{sameBytes}
-use Rattle.float.specs.Ops.{if_then_else_}
-use Rattle.history_script.specs.State.{builderScriptBytes}
+use Rattle.words.specs.Lists.{sameBytes}
+use Rattle.words.specs.Choice.{if_then_else_}
+use Rattle.export_reports.specs.State.{builderScriptBytes}
 use Rattle.replay.specs.declared.lines.Verdict.{Verdict}
 use Rattle.replay.specs.declared.lines.Verdict.the-variants.{Equal, Differs, NotAnAnswer}
 use Rattle.replay.specs.Fields.{isField, fieldBytes}

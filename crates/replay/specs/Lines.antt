@@ -4,7 +4,7 @@ use mathlib.Core.Bool.{true, false, _&&_}
 use mathlib.Core.List.{List}
 use lib.Dec.{eqb}
 use lib.ListN.{length, take, drop, getD, set, replicate}
-use Rattle.float.specs.Ops.{if_then_else_}
+use Rattle.words.specs.Choice.{if_then_else_}
 use Rattle.line_kinds.specs.declared.functions.Function.{Function}
 use Rattle.line_kinds.specs.declared.functions.Kind.{Kind}
 use Rattle.line_kinds.specs.declared.functions.Kind.the-variants.{Answer, Builder, Listing, Unknown}

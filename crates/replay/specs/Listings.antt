@@ -4,9 +4,9 @@ use mathlib.Core.Bool.{Bool, _&&_}
 use mathlib.Core.List.{List}
 use lib.Dec.{eqb, leb}
 use lib.ListN.{length, take, drop, getD, replicate}
-use Rattle.lent_bytes.specs.Lists.{sameBytes}
+use Rattle.words.specs.Lists.{sameBytes}
 use Rattle.lent_bytes.specs.Buffer.{replied, written}
-use Rattle.float.specs.Ops.{if_then_else_}
+use Rattle.words.specs.Choice.{if_then_else_}
 use Rattle.column_listing.specs.Listing.{listingOf}
 use Rattle.replay.specs.declared.lines.Verdict.{Verdict}
 use Rattle.replay.specs.declared.lines.Verdict.the-variants.{Equal, Differs, NotAnAnswer}

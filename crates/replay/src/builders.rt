@@ -57,7 +57,7 @@ fn beside(letter: u8, rates: [u8; 3], state: &[u8], script: &[u8], report: &[u8]
     let pre = PhredScore(rates[0]);
     let post = PhredScore(rates[1]);
     let mut ours = [0u8; REPORT];
-    let n = history_script::from_state(pre, post, rates[2], state, script, &mut ours);
+    let n = export_reports::from_state(pre, post, rates[2], state, script, &mut ours);
     if n != 91 {
         return Verdict::NotAnAnswer;
     }

@@ -11,8 +11,8 @@ use lib.Dec.{eqb, ltb}
 use lib.Ieee.{nan}
 use lib.ListN.{length, take, drop, getD, length-map, length-take, length-drop}
 use lib.Seq.{length-take-le, getD-take}
-use Rattle.float.proofs.Cases.{test, both}
-use Rattle.lent_bytes.specs.Lists.{every, lastOr, isEmpty, byteAt}
+use Rattle.words.proofs.Cases.{test, both}
+use Rattle.words.specs.Lists.{every, lastOr, isEmpty, byteAt}
 use Rattle.refusals.specs.declared.Refusal.{Refusal}
 use Rattle.refusals.specs.declared.Refusal.the-variants.{NoStrings, LengthsDiffer}
 use Rattle.refusals.specs.Result.{Result, refused, accepted, judged}

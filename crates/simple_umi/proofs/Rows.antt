@@ -8,10 +8,10 @@ use borrow.Author.Tests.{eq-eqb, ne-eqb}
 use lib.Dec.{eqb}
 use lib.ListN.{length, drop, getD}
 use lib.Seq.{getD-take, getD-drop}
-use Rattle.lent_bytes.specs.Lists.{every, byteAt}
-use Rattle.lent_bytes.proofs.Tests.{every-first, every-more, every-failed, every-done}
-use Rattle.rate_tables.specs.Tables.{listed}
-use Rattle.rate_tables.proofs.Filled.{listed-length, level-at}
+use Rattle.words.specs.Lists.{every, byteAt}
+use Rattle.words.proofs.Tests.{every-first, every-more, every-failed, every-done}
+use Rattle.words.specs.Lists.{listed}
+use Rattle.words.proofs.Listed.{listed-length, level-at}
 use Rattle.umi_family.specs.Rows.{rowsAt, bytesAt, columnsAt}
 use Rattle.simple_umi.specs.Strings.{columnOf, columnsOf}
 use Rattle.simple_umi.specs.Places.{lengthsAlike}

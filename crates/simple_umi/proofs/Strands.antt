@@ -12,9 +12,9 @@ use borrow.Author.Tests.{ltb-true, ltb-false, le-leb}
 use lib.Dec.{eqb, ltb}
 use lib.ListN.{length, take, drop, set, drop-of-length-le, length-set}
 use lib.Seq.{take-suc-set, take-take, take-at, length-take-le, getD-take, getD-drop, getD-set-same, getD-set-other}
-use Rattle.float.specs.Ops.{if_then_else_}
-use Rattle.float.proofs.Cases.{test, clash}
-use Rattle.lent_bytes.specs.Lists.{isEmpty, byteAt}
+use Rattle.words.specs.Choice.{if_then_else_}
+use Rattle.words.proofs.Cases.{test, clash}
+use Rattle.words.specs.Lists.{isEmpty, byteAt}
 use Rattle.lent_bytes.specs.Buffer.{written}
 use Rattle.lent_bytes.proofs.Lists.{bytes-from}
 use Rattle.lent_bytes.proofs.Buffer.{short-written}

@@ -3,8 +3,8 @@ use Prim.Native.Nat.{ℕ}
 use mathlib.Core.Bool.{Bool, not}
 use mathlib.Core.List.{List, map}
 use lib.ListN.{length}
-use Rattle.float.specs.Ops.{if_then_else_}
-use Rattle.lent_bytes.specs.Lists.{any, lastOr}
+use Rattle.words.specs.Choice.{if_then_else_}
+use Rattle.words.specs.Lists.{any, lastOr}
 use Rattle.refusals.specs.Result.{Result, judged}
 use Rattle.base_builder.specs.declared.builder.ConsensusBaseBuilder.{ConsensusBaseBuilder}
 use Rattle.base_builder.specs.Builder.{newAt}

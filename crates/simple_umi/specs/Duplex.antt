@@ -3,8 +3,8 @@ use Prim.Native.Nat.{ℕ, _-_}
 use mathlib.Core.Bool.{Bool}
 use mathlib.Core.List.{List, [], _∷_, map}
 use lib.ListN.{length, take, drop}
-use Rattle.float.specs.Ops.{if_then_else_}
-use Rattle.lent_bytes.specs.Lists.{keep, isEmpty, sameBytes}
+use Rattle.words.specs.Choice.{if_then_else_}
+use Rattle.words.specs.Lists.{keep, isEmpty, sameBytes}
 use Rattle.refusals.specs.Result.{Result, accepted, andThen}
 use Rattle.simple_umi.specs.declared.caller.SimpleConsensusCaller.{SimpleConsensusCaller}
 use Rattle.simple_umi.specs.Consensus.{Found, withBuilder, consensusOf}

@@ -4,8 +4,8 @@ use mathlib.Core.Bool.{Bool, _&&_}
 use mathlib.Core.List.{List, [], _∷_, map}
 use lib.Dec.{ltb, eqb}
 use lib.ListN.{length}
-use Rattle.rate_tables.specs.Tables.{listed}
-use Rattle.lent_bytes.specs.Lists.{every, byteAt}
+use Rattle.words.specs.Lists.{listed}
+use Rattle.words.specs.Lists.{every, byteAt}
 
 -- the first string, an empty one where there is none
 abbrev pub firstOf : List (List ℕ) → List ℕ

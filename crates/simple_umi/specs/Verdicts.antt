@@ -2,8 +2,8 @@
 use Prim.Native.Nat.{ℕ}
 use mathlib.Core.List.{List}
 use lib.ListN.{length}
-use Rattle.float.specs.Ops.{if_then_else_}
-use Rattle.lent_bytes.specs.Lists.{any, isEmpty}
+use Rattle.words.specs.Choice.{if_then_else_}
+use Rattle.words.specs.Lists.{any, isEmpty}
 use Rattle.refusals.specs.declared.Refusal.the-variants.{NoStrings, LengthsDiffer, NotAscii}
 use Rattle.refusals.specs.declared.Verdict.{Verdict}
 use Rattle.refusals.specs.declared.Verdict.the-variants.{Sound, Refused}

@@ -2,7 +2,7 @@
 ghost use mathlib.Core.Path.{_≡_};
 ghost use Prim.Native.Nat.{_+_, _≤_};
 ghost use lib.ListN.{length, take};
-ghost use Rattle.lent_bytes.specs.Lists.{byteAt};
+ghost use Rattle.words.specs.Lists.{byteAt};
 ghost use Rattle.refusals.specs.Result.{judged, andThen};
 ghost use Rattle.simple_umi.specs.Consensus.{consensusOf};
 ghost use Rattle.simple_umi.specs.Duplex.{endsIn, strandOf, duplexOf};

@@ -9,14 +9,14 @@ use native.Mathlib.Omega.{arith}
 use borrow.Author.Tests.{eqb-false, lt-ltb}
 use lib.Dec.{ltb, eqb}
 use lib.ListN.{length}
-use Rattle.float.proofs.Cases.{test, clash}
-use Rattle.lent_bytes.specs.Lists.{any, lastOr, sameBytes, byteAt}
-use Rattle.lent_bytes.proofs.Tests.{any-by-failed}
+use Rattle.words.proofs.Cases.{test, clash}
+use Rattle.words.specs.Lists.{any, lastOr, sameBytes, byteAt}
+use Rattle.words.proofs.Tests.{any-by-failed}
 use Rattle.lent_bytes.proofs.Same.{same-self, same-lengths, same-equal}
 use Rattle.refusals.specs.declared.Refusal.{Refusal}
 use Rattle.refusals.specs.Result.{Result, refused, accepted}
-use Rattle.rate_tables.specs.Tables.{listed}
-use Rattle.rate_tables.proofs.Filled.{listed-length, level-at}
+use Rattle.words.specs.Lists.{listed}
+use Rattle.words.proofs.Listed.{listed-length, level-at}
 use Rattle.base_builder.specs.declared.builder.ConsensusBaseBuilder.{ConsensusBaseBuilder}
 use Rattle.base_builder.specs.Builder.{resetOf}
 use Rattle.umi_column.specs.Dna.{isDnaBase}

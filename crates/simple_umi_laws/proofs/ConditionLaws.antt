@@ -9,8 +9,8 @@ use native.Mathlib.Omega.{arith}
 use borrow.Author.Tests.{eq-eqb}
 use lib.Dec.{ltb}
 use lib.ListN.{length, getD}
-use Rattle.float.proofs.Cases.{both, clash}
-use Rattle.lent_bytes.specs.Lists.{any, isEmpty}
+use Rattle.words.proofs.Cases.{both, clash}
+use Rattle.words.specs.Lists.{any, isEmpty}
 use Rattle.refusals.specs.declared.Refusal.{Refusal}
 use Rattle.refusals.specs.declared.Refusal.the-variants.{NoStrings, LengthsDiffer, NotAscii}
 use Rattle.refusals.specs.declared.Verdict.the-variants.{Sound, Refused}

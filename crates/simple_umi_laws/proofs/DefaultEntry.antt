@@ -14,7 +14,7 @@ use Rattle.elementary.specs.LnOnePlus.{reducedOf, expansionOf, joinedOf, number
 use Rattle.elementary.specs.Ln.{ratioOf, normalOf, lnOf}
 use Rattle.phred.specs.Phred.{phredToLnErrorProb, lnOneMinusExp, lnNot, twoTrials, lnErrorProbTwoTrials}
 use Rattle.rate_tables.specs.Adjusted.{adjustedError, correctAt, errorPerAltAt, adjustedTables}
-use Rattle.rate_tables.proofs.Filled.{level-at}
+use Rattle.words.proofs.Listed.{level-at}
 
 -- -0.01005.., of no error, and -5.70.., of an error to one of three bases
 abbrev pub right : Float

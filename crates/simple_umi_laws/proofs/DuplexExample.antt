@@ -7,13 +7,13 @@ use borrow.Author.Tests.{le-ltb, le-leb}
 use lib.Ieee.{add, sub, div, neg, lt, le, eq, isNan, ofBits}
 use lib.ListN.{length}
 use Rattle.float.specs.Methods.{absOf}
-use Rattle.lent_bytes.specs.Lists.{any}
+use Rattle.words.specs.Lists.{any}
 use Rattle.lent_bytes.specs.Buffer.{written}
 use Rattle.refusals.specs.declared.Verdict.the-variants.{Sound}
 use Rattle.refusals.specs.Result.{accepted}
 use Rattle.string_set.specs.Readers.{byte, front, many}
 use Rattle.string_set.specs.StringSet.{string, stringSet, readSet}
-use Rattle.rate_tables.specs.Tables.{listed}
+use Rattle.words.specs.Lists.{listed}
 use Rattle.tie_rules.specs.Lanes.{lanes, laneOfByte, baseOf}
 use Rattle.tie_rules.specs.Ties.{fgbioTie, fgbioStep, scan, fgbioUniqueMaxIndex, notMinusInfinity, uniqueMaxIndexWith}
 use Rattle.rate_tables.specs.declared.adjusted.AdjustedEntry.{AdjustedEntry}

@@ -7,8 +7,8 @@ use native.Mathlib.Omega.{arith}
 use borrow.Author.Tests.{eq-eqb}
 use lib.ListN.{length, take, length-append}
 use lib.Seq.{take-append-seam, drop-append-seam}
-use Rattle.float.proofs.Cases.{test}
-use Rattle.lent_bytes.specs.Lists.{keep, isEmpty}
+use Rattle.words.proofs.Cases.{test}
+use Rattle.words.specs.Lists.{keep, isEmpty}
 use Rattle.refusals.specs.declared.Refusal.{Refusal}
 use Rattle.refusals.specs.declared.Verdict.{Verdict}
 use Rattle.refusals.specs.declared.Verdict.the-variants.{Sound, Refused}

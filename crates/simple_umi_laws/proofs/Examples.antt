@@ -5,9 +5,9 @@ use Prim.Native.Nat.{ℕ}
 use lib.Dec.{T}
 use lib.Ieee.{sub, div, le, isNan, ofBits}
 use Rattle.float.specs.Methods.{absOf}
-use Rattle.float.specs.Claims.{all}
-use Rattle.lent_bytes.specs.Lists.{byteAt}
-use Rattle.rate_tables.specs.Tables.{listed}
+use Rattle.words.specs.Claims.{all}
+use Rattle.words.specs.Lists.{byteAt}
+use Rattle.words.specs.Lists.{listed}
 use Rattle.tie_rules.specs.Lanes.{lanes, baseOf, laneOfByte}
 use Rattle.tie_rules.specs.Ties.{fgbioTie, fgbioStep, scan, fgbioUniqueMaxIndex, notMinusInfinity, uniqueMaxIndexWith}
 use Rattle.base_builder.specs.Observation.{movedBy, valueOf, countOf}

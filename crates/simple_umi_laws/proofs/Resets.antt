@@ -6,14 +6,14 @@ use Prim.Native.Nat.{ℕ, min}
 use lib.Dec.{eqb}
 use lib.Ieee.{Float, nan}
 use lib.ListN.{getD}
-use Rattle.float.proofs.Cases.{choice}
-use Rattle.lent_bytes.specs.Lists.{lastOr}
+use Rattle.words.proofs.Cases.{choice}
+use Rattle.words.specs.Lists.{lastOr}
 use Rattle.rate_tables.specs.declared.adjusted.AdjustedProbabilityTables.{AdjustedProbabilityTables}
 use Rattle.rate_tables.specs.Adjusted.{adjustedTables}
 use Rattle.tie_rules.specs.Lanes.{noLane, laneOfByte}
 use Rattle.base_builder.specs.declared.builder.ConsensusBaseBuilder.{ConsensusBaseBuilder}
 use Rattle.base_builder.specs.Builder.{cleared, resetOf, observed, isFull, addedBy, added}
-use Rattle.base_builder_history.specs.History.{Event, add, step, run}
+use Rattle.base_builder.specs.History.{Event, add, step, run}
 use Rattle.umi_column.specs.Calls.{columnEvents, columnBuilder}
 use Rattle.simple_umi_laws.specs.Laws.{allEvents}
 

@@ -4,7 +4,7 @@ use mathlib.Core.Bool.{Bool, true, false, _&&_, Bool·beq}
 use mathlib.Core.List.{List, [], _∷_}
 use lib.Dec.{eqb}
 use lib.ListN.{replicate}
-use Rattle.lent_bytes.specs.Lists.{isEmpty, sameBytes}
+use Rattle.words.specs.Lists.{isEmpty, sameBytes}
 use Rattle.refusals.specs.Refusals.{numberOf}
 use Rattle.refusals.specs.Result.{Result, refused, accepted}
 use Rattle.string_set.specs.StringSet.{readSet}

@@ -5,15 +5,15 @@ use mathlib.Core.List.{List, [], _∷_, _++_}
 use Prim.Native.Nat.{ℕ, suc, _<_}
 use lib.Dec.{eqb}
 use lib.ListN.{length}
-use Rattle.lent_bytes.specs.Lists.{any, byteAt}
+use Rattle.words.specs.Lists.{any, byteAt}
 use Rattle.refusals.specs.declared.Refusal.{Refusal}
 use Rattle.refusals.specs.declared.Refusal.the-variants.{NoStrings, LengthsDiffer, NotAscii, BufferTooShort}
 use Rattle.refusals.specs.declared.Verdict.the-variants.{Sound, Refused}
 use Rattle.refusals.specs.Result.{refused, accepted}
 use Rattle.rate_tables.specs.Adjusted.{adjustedTables}
 use Rattle.base_builder.specs.declared.builder.ConsensusBaseBuilder.{ConsensusBaseBuilder}
-use Rattle.base_builder_history.specs.Demand1.{isBase}
-use Rattle.base_builder_history.specs.History.{Event, run}
+use Rattle.base_builder_laws.specs.Demand1.{isBase}
+use Rattle.base_builder.specs.History.{Event, run}
 use Rattle.umi_column.specs.Dna.{isDnaBase}
 use Rattle.umi_column.specs.Verdicts.{verdictOf}
 use Rattle.umi_column.specs.Calls.{columnEvents}

@@ -7,7 +7,7 @@ use borrow.Author.Tests.{le-leb, leb-true, leb-false}
 use lib.Dec.{leb}
 use lib.ListN.{length, take}
 use lib.Seq.{length-take-le, take-all}
-use Rattle.float.proofs.Cases.{test}
+use Rattle.words.proofs.Cases.{test}
 use Rattle.lent_bytes.specs.Buffer.{replied, written}
 use Rattle.refusals.specs.declared.Refusal.the-variants.{FileTooLong}
 use Rattle.column_file.proofs.FileRead.{file-long}

@@ -9,8 +9,8 @@ use borrow.Author.Tests.{leb-true, leb-false, ltb-true, ltb-false}
 use lib.Dec.{leb, ltb}
 use lib.ListN.{length, take, drop, set, length-drop, List·getD-append}
 use lib.Seq.{sets, sets-eq, length-take-le, take-at}
-use Rattle.float.proofs.Cases.{test, choice}
-use Rattle.lent_bytes.specs.Lists.{byteAt}
+use Rattle.words.proofs.Cases.{test, choice}
+use Rattle.words.specs.Lists.{byteAt}
 use Rattle.refusals.specs.declared.Refusal.{Refusal}
 use Rattle.refusals.specs.Refusals.{numberIn}
 use Rattle.refusals.specs.Result.{Result, refused, accepted}

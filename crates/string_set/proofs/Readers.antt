@@ -7,8 +7,8 @@ use borrow.Author.Tests.{lt-ltb, le-ltb, le-leb, lt-leb, ltb-true, ltb-false}
 use lib.Dec.{ltb}
 use lib.ListN.{length, take, drop, drop-of-length-le, length-drop}
 use lib.Seq.{drop-drop}
-use Rattle.float.proofs.Cases.{test}
-use Rattle.lent_bytes.specs.Lists.{byteAt}
+use Rattle.words.proofs.Cases.{test}
+use Rattle.words.specs.Lists.{byteAt}
 use Rattle.lent_bytes.proofs.Lists.{bytes-from}
 use Rattle.refusals.specs.declared.Refusal.the-variants.{FileTooLong, CutOff}
 use Rattle.refusals.specs.Result.{refused, accepted, andThen}

@@ -6,8 +6,8 @@ use native.Mathlib.Omega.{arith}
 use borrow.Author.Tests.{ltb-true, ltb-false}
 use lib.Dec.{ltb}
 use lib.ListN.{length, take, drop, length-append}
-use Rattle.float.proofs.Cases.{test}
-use Rattle.lent_bytes.specs.Lists.{byteAt}
+use Rattle.words.proofs.Cases.{test}
+use Rattle.words.specs.Lists.{byteAt}
 use Rattle.refusals.specs.declared.Refusal.the-variants.{FileTooLong, CutOff}
 use Rattle.refusals.specs.Result.{refused}
 use Rattle.string_set.specs.declared.Reading.the-variants.{Strings}

@@ -9,7 +9,7 @@ use lib.Dec.{ltb}
 use lib.Ieee.{Float, lt, eq, isNan}
 use lib.Ieee.Scale.{finite}
 use borrow.Author.Tests.{lt-ltb}
-use Rattle.float.proofs.Cases.{choice}
+use Rattle.words.proofs.Cases.{choice}
 use Rattle.phred.specs.Phred.{lnZero}
 use Rattle.tie_rules.specs.declared.tie_rule.Run.{Run}
 use Rattle.tie_rules.specs.declared.tie_rule.TieRule.{TieRule}

@@ -8,7 +8,7 @@ use lib.Dec.{eqb, ltb}
 use lib.Ieee.{Float, lt}
 use borrow.Author.Tests.{eqb-true, eqb-false}
 use Rattle.float.specs.Ops.{_⊖_, bits}
-use Rattle.float.proofs.Cases.{test}
+use Rattle.words.proofs.Cases.{test}
 use Rattle.float.proofs.Order.{lt-asym, lt-not-le}
 use Rattle.float.proofs.Turned.{turned}
 use Rattle.float.proofs.Gap.{gap-lt}

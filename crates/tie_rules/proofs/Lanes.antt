@@ -8,9 +8,10 @@ use native.Mathlib.Numerals.{add-one}
 use native.Mathlib.Omega.{arith}
 use lib.Dec.{eqb}
 use lib.ListN.{getD}
-use Rattle.float.specs.Ops.{if_then_else_}
-use Rattle.float.proofs.Cases.{both, and-false}
-use Rattle.tie_rules.specs.Lanes.{lanes, allBelow, laneOfByte}
+use Rattle.words.specs.Choice.{if_then_else_}
+use Rattle.words.proofs.Cases.{both, and-false}
+use Rattle.tie_rules.specs.Lanes.{lanes, laneOfByte}
+use Rattle.words.specs.Claims.{allBelow}
 
 -- one more lane of which the claim holds
 pub below-on : (j : ℕ) (p : ℕ → Bool) → allBelow j p ≡ true → p j ≡ true → allBelow (j + 1) p ≡ true

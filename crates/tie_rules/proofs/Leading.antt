@@ -8,9 +8,10 @@ use native.Mathlib.Omega.{arith}
 use lib.Dec.{ltb}
 use lib.Ieee.{Float, nan, inf, fin, lt, le, eq, neg, add, sub, div, isNan, ofBits}
 use borrow.Author.Tests.{lt-ltb, ltb-true}
-use Rattle.float.specs.Ops.{_⊖_, bits, if_then_else_}
+use Rattle.float.specs.Ops.{_⊖_, bits}
+use Rattle.words.specs.Choice.{if_then_else_}
 use Rattle.float.specs.Methods.{absOf}
-use Rattle.float.proofs.Cases.{test, clash, choice}
+use Rattle.words.proofs.Cases.{test, clash, choice}
 use Rattle.float.proofs.Order.{lt-numbers, lt-trans, lt-not-eq}
 use Rattle.float.proofs.Turned.{turned}
 use Rattle.phred.specs.Phred.{lnZero}

@@ -11,7 +11,7 @@ use lib.Ieee.{Float, nan, inf, fin, lt, le, eq, neg, add, sub, isNan}
 use lib.Ieee.Scale.{finite}
 use borrow.Author.Tests.{lt-ltb, le-ltb, eq-eqb}
 use Rattle.float.specs.Methods.{absOf}
-use Rattle.float.proofs.Cases.{test, clash, refuted, choice, both, and-false}
+use Rattle.words.proofs.Cases.{test, clash, refuted, choice, both, and-false}
 use Rattle.float.proofs.Order.{lt-asym, lt-irrefl, lt-trans, lt-numbers, le-or, not-lt-le, eq-lt}
 use Rattle.phred.specs.Phred.{lnZero}
 use Rattle.tie_rules.specs.declared.tie_rule.Run.{Run}

@@ -5,7 +5,7 @@ use mathlib.Core.List.{List, [], _∷_}
 use lib.Dec.{eqb}
 use lib.ListN.{getD}
 use lib.Ieee.{Float, nan}
-use Rattle.float.specs.Ops.{if_then_else_}
+use Rattle.words.specs.Choice.{if_then_else_}
 
 -- what f gives at the lanes 0 to 3
 unfoldable pub lanes : {A : Type 0} → (ℕ → A) → List A
@@ -22,11 +22,6 @@ counted ns i = getD ns i 0
 -- the number that says that there is no lane
 abbrev pub noLane : ℕ
 noLane = 4
-
--- the claim p holds of every number below n
-unfoldable pub allBelow : ℕ → (ℕ → Bool) → Bool
-allBelow zero p = true
-allBelow (suc n) p = allBelow n p && p n
 
 -- the lane of a byte: ACGTacgt, and none for any other
 unfoldable pub laneOfByte : ℕ → ℕ

@@ -1,7 +1,8 @@
 -- fgbio's rule as it is run: a scan that begins at -infinity. Definitions only.
 use Prim.Native.Nat.{ℕ}
 use lib.Ieee.{Float, lt, le}
-use Rattle.float.specs.Ops.{_⊖_, bits, if_then_else_}
+use Rattle.float.specs.Ops.{_⊖_, bits}
+use Rattle.words.specs.Choice.{if_then_else_}
 use Rattle.tie_rules.specs.declared.lead.Lead.{Lead}
 use Rattle.tie_rules.specs.Lanes.{noLane}
 

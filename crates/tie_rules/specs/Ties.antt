@@ -5,13 +5,15 @@ use mathlib.Core.List.{List}
 use lib.Dec.{leb, ltb, eqb}
 use lib.Ieee.{Float, binary64, toBits, lt, le, eq, isNan}
 use lib.Ieee.Scale.{finite}
-use Rattle.float.specs.Ops.{_⊖_, bits, nought, if_then_else_}
+use Rattle.float.specs.Ops.{_⊖_, bits, nought}
+use Rattle.words.specs.Choice.{if_then_else_}
 use Rattle.float.specs.Methods.{absOf}
 use Rattle.phred.specs.Phred.{lnZero}
 use Rattle.tie_rules.specs.declared.tie_rule.Run.{Run}
 use Rattle.tie_rules.specs.declared.tie_rule.TieRule.{TieRule}
 use Rattle.tie_rules.specs.declared.tie_rule.TieRule.the-variants.{UlpRelative, FgbioCompat}
-use Rattle.tie_rules.specs.Lanes.{lane, noLane, allBelow}
+use Rattle.tie_rules.specs.Lanes.{lane, noLane}
+use Rattle.words.specs.Claims.{allBelow}
 
 -- the rule of a number: 0 FgbioCompat, any other UlpRelative
 abbrev pub ruleOf : ℕ → TieRule

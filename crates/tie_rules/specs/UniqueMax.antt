@@ -1,7 +1,7 @@
 -- What the source answers as an Option: a lane, or none. Definitions only.
 use Prim.Native.Nat.{ℕ}
 use lib.Dec.{ltb}
-use Rattle.float.specs.Ops.{if_then_else_}
+use Rattle.words.specs.Choice.{if_then_else_}
 use Rattle.tie_rules.specs.declared.unique_max.UniqueMax.{UniqueMax}
 use Rattle.tie_rules.specs.declared.unique_max.UniqueMax.the-variants.{Lane, NoLane}
 use Rattle.tie_rules.specs.Lanes.{noLane}

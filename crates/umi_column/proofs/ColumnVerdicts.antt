@@ -7,8 +7,8 @@ use native.Mathlib.Omega.{arith}
 use lib.Dec.{eqb}
 use lib.ListN.{length}
 use borrow.Author.Tests.{eqb-true, eq-eqb}
-use Rattle.float.proofs.Cases.{test, clash, both, and-false}
-use Rattle.lent_bytes.specs.Lists.{any, every, byteAt}
+use Rattle.words.proofs.Cases.{test, clash, both, and-false}
+use Rattle.words.specs.Lists.{any, every, byteAt}
 use Rattle.refusals.specs.declared.Refusal.the-variants.{UnlikeFirst, Mixed}
 use Rattle.refusals.specs.declared.Verdict.{Verdict}
 use Rattle.refusals.specs.declared.Verdict.the-variants.{Sound, Refused}
@@ -16,7 +16,7 @@ use Rattle.refusals.specs.Refusals.{verdictNumber}
 use Rattle.refusals.proofs.Numbers.{said-number}
 use Rattle.umi_column.specs.Dna.{isDnaBase}
 use Rattle.umi_column.specs.Verdicts.{isUnlike, isMixed, verdictOf, verdictNumberOf}
-use Rattle.lent_bytes.proofs.Tests.{none-by-none, none-by-every}
+use Rattle.words.proofs.Tests.{none-by-none, none-by-every}
 
 -- no DNA
 abbrev isOther : ℕ → Bool

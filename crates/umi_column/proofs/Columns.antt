@@ -6,18 +6,18 @@ use Prim.Native.Nat.{ℕ, min}
 use lib.Dec.{T, leb, eqb}
 use lib.Ieee.{nan}
 use lib.ListN.{getD}
-use Rattle.float.specs.Ops.{if_then_else_}
-use Rattle.lent_bytes.specs.Lists.{byteAt}
+use Rattle.words.specs.Choice.{if_then_else_}
+use Rattle.words.specs.Lists.{byteAt}
 use Rattle.rate_tables.specs.Adjusted.{adjustedTables}
 use Rattle.gap_tables.specs.Gaps.{gapTables}
 use Rattle.lane_calls.specs.declared.call.Call.{Call}
 use Rattle.base_builder.specs.declared.builder.ConsensusBaseBuilder.{ConsensusBaseBuilder}
 use Rattle.base_builder.specs.Builder.{resetOf, added}
 use Rattle.base_builder.specs.Calls.{callOf}
-use Rattle.base_builder_history.specs.History.{add, step, run}
-use Rattle.base_builder_history.specs.Demand1.{isBase, isCall}
-use Rattle.base_builder_history.proofs.AfterReset.{after-reset}
-use Rattle.base_builder_history.proofs.Demand1.{demand1}
+use Rattle.base_builder.specs.History.{add, step, run}
+use Rattle.base_builder_laws.specs.Demand1.{isBase, isCall}
+use Rattle.base_builder_laws.proofs.AfterReset.{after-reset}
+use Rattle.base_builder_laws.proofs.Demand1.{demand1}
 use Rattle.umi_column.specs.Dna.{isDnaBase}
 use Rattle.umi_column.specs.Calls.{columnBuilder, columnByte, addedAll, namedByte}
 

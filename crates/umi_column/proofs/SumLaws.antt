@@ -8,8 +8,8 @@ use borrow.Author.Tests.{lt-leb, lt-ltb, eqb-true, eqb-false}
 use lib.Dec.{eqb}
 use lib.Ieee.{Float, nan}
 use lib.ListN.{length, getD}
-use Rattle.float.specs.Ops.{if_then_else_}
-use Rattle.float.proofs.Cases.{test, choice}
+use Rattle.words.specs.Choice.{if_then_else_}
+use Rattle.words.proofs.Cases.{test, choice}
 use Rattle.tie_rules.specs.Lanes.{lanes, noLane, laneOfByte}
 use Rattle.base_builder.specs.declared.builder.ConsensusBaseBuilder.{ConsensusBaseBuilder}
 use Rattle.base_builder.specs.Observation.{movedBy, valueOf, countOf}

@@ -2,16 +2,16 @@
 use Prim.Native.Nat.{ℕ}
 use mathlib.Core.List.{List, [], _∷_, map}
 use lib.Ieee.{Float}
-use Rattle.float.specs.Ops.{if_then_else_}
-use Rattle.lent_bytes.specs.Lists.{byteAt}
+use Rattle.words.specs.Choice.{if_then_else_}
+use Rattle.words.specs.Lists.{byteAt}
 use Rattle.rate_tables.specs.Adjusted.{adjustedTables}
 use Rattle.gap_tables.specs.Gaps.{gapTables}
 use Rattle.tie_rules.specs.Lanes.{baseOf}
 use Rattle.base_builder.specs.declared.builder.ConsensusBaseBuilder.{ConsensusBaseBuilder}
 use Rattle.base_builder.specs.Builder.{addedBy}
 use Rattle.base_builder.specs.Calls.{callOf}
-use Rattle.base_builder_history.specs.History.{Event, add, reset, run}
-use Rattle.base_builder_history.specs.Laws.{ruled}
+use Rattle.base_builder.specs.History.{Event, add, reset, run}
+use Rattle.base_builder.specs.History.{ruled}
 use Rattle.umi_column.specs.Dna.{isDnaBase}
 
 -- what happens to the builder at a column: a reset, and then each byte is added at the quality; `add` ignores bytes that are no base

@@ -5,7 +5,8 @@ use mathlib.Core.List.{List, [], _∷_}
 use mathlib.Core.Logic.{_≢_}
 use lib.Dec.{eqb}
 use lib.Ieee.{Float, le, neg}
-use Rattle.float.specs.Ops.{_⊖_, bits, nought, if_then_else_}
+use Rattle.float.specs.Ops.{_⊖_, bits, nought}
+use Rattle.words.specs.Choice.{if_then_else_}
 use Rattle.tie_rules.specs.Lanes.{laneOfByte}
 
 -- how many bytes stand for lane k

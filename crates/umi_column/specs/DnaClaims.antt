@@ -3,8 +3,8 @@ use Prim.Native.Nat.{ℕ}
 use mathlib.Core.Bool.{Bool, Bool·beq}
 use mathlib.Core.List.{List, [], _∷_}
 use lib.Dec.{eqb}
-use Rattle.float.specs.Claims.{every}
-use Rattle.lent_bytes.specs.Lists.{any}
+use Rattle.words.specs.Claims.{everyFrom}
+use Rattle.words.specs.Lists.{any}
 use Rattle.umi_column.specs.Dna.{isDnaBase}
 
 -- ACGTN and acgtn
@@ -21,4 +21,4 @@ dnaAt x = Bool·beq (isDnaBase x) (isDnaLetter x)
 
 -- so it is at each of the 256 bytes
 abbrev pub dnaClaims : Bool
-dnaClaims = every dnaAt 0 256
+dnaClaims = everyFrom dnaAt 0 256

@@ -4,7 +4,8 @@ use mathlib.Core.List.{List, [], _∷_}
 use lib.Dec.{ltb}
 use lib.Ieee.{Float, nan}
 use lib.ListN.{getD, replicate}
-use Rattle.float.specs.Ops.{nought, if_then_else_}
+use Rattle.float.specs.Ops.{nought}
+use Rattle.words.specs.Choice.{if_then_else_}
 use Rattle.tie_rules.specs.declared.tie_rule.TieRule.{TieRule}
 use Rattle.tie_rules.specs.Lanes.{lanes, lane, noLane, laneOfByte, baseOf}
 use Rattle.tie_rules.specs.Ties.{uniqueMaxIndexWith}

@@ -3,8 +3,8 @@ use Prim.Native.Nat.{ℕ}
 use mathlib.Core.Bool.{Bool, not, _&&_}
 use mathlib.Core.List.{List}
 use lib.Dec.{eqb}
-use Rattle.float.specs.Ops.{if_then_else_}
-use Rattle.lent_bytes.specs.Lists.{any, byteAt}
+use Rattle.words.specs.Choice.{if_then_else_}
+use Rattle.words.specs.Lists.{any, byteAt}
 use Rattle.refusals.specs.declared.Refusal.the-variants.{UnlikeFirst, Mixed}
 use Rattle.refusals.specs.declared.Verdict.{Verdict}
 use Rattle.refusals.specs.declared.Verdict.the-variants.{Sound, Refused}

@@ -1,6 +1,6 @@
 // What is refused in a column.
 ghost use mathlib.Core.Path.{_≡_};
-ghost use Rattle.lent_bytes.specs.Lists.{any};
+ghost use Rattle.words.specs.Lists.{any};
 ghost use Rattle.refusals.specs.Refusals.{verdictNumber};
 ghost use Rattle.umi_column.specs.Dna.{isDnaBase};
 ghost use Rattle.umi_column.specs.Verdicts.{isUnlike, verdictOf, verdictNumberOf};

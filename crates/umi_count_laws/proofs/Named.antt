@@ -15,14 +15,14 @@ use lib.Ieee.Positive.{den, den-pos}
 use lib.Ieee.Scale.{finite}
 use borrow.Author.Tests.{ltb-false}
 use Rattle.float.specs.Ops.{_⊖_, bits, nought, one}
-use Rattle.float.proofs.Cases.{test, clash, both}
+use Rattle.words.proofs.Cases.{test, clash, both}
 use Rattle.float.proofs.Order.{lt-trans, lt-le, le-le, le-numbers, le-not-lt, not-lt-le}
 use Rattle.float.proofs.Gap.{gap-lt}
 use Rattle.tie_rules.specs.declared.tie_rule.TieRule.the-variants.{FgbioCompat}
 use Rattle.tie_rules.specs.Lanes.{lane}
 use Rattle.tie_rules.specs.Ties.{uniqueMaxIndexWith}
 use Rattle.tie_rules.proofs.Clear.{all-clear}
-use Rattle.base_builder_history.proofs.Named.{named}
+use Rattle.base_builder_laws.proofs.Named.{named}
 use Rattle.umi_column.specs.Sums.{noSums, windowOf, sumAt, summedAll}
 use Rattle.umi_column.specs.Counts.{countOf, apart, Leads}
 use Rattle.umi_count_laws.specs.Named.{NamedByCounts}

@@ -11,7 +11,7 @@ use lib.Ieee.Fits.{down-pos}
 use lib.Ieee.Exact.{HasValue}
 use borrow.Author.Tests.{ltb-true, ltb-false, lt-ltb}
 use Rattle.float.specs.Ops.{_⊕_, _⊖_}
-use Rattle.float.proofs.Cases.{test, clash}
+use Rattle.words.proofs.Cases.{test, clash}
 use Rattle.float.proofs.Order.{le-not-lt}
 use Rattle.umi_count_laws.proofs.Rounding.{sum-same, below-same}
 

@@ -13,7 +13,7 @@ use lib.Ieee.Exact.{HasValue, units-val}
 use lib.Ieee.Nearest.{closest, nearest-ge}
 use lib.Ieee.Scale.{round-same}
 use borrow.Author.Tests.{ltb-true, ltb-false, lt-ltb, le-ltb}
-use Rattle.float.proofs.Cases.{test}
+use Rattle.words.proofs.Cases.{test}
 
 -- ---- a fraction rounded
 

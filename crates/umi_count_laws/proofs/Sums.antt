@@ -7,8 +7,9 @@ use lib.Dec.{ltb, eqb}
 use lib.ListN.{length, getD}
 use lib.Ieee.{Float, nan, ofBits}
 use borrow.Author.Tests.{ltb-true, ltb-false, ne-eqb}
-use Rattle.float.specs.Ops.{nought, if_then_else_}
-use Rattle.float.proofs.Cases.{test}
+use Rattle.float.specs.Ops.{nought}
+use Rattle.words.specs.Choice.{if_then_else_}
+use Rattle.words.proofs.Cases.{test}
 use Rattle.tie_rules.specs.Lanes.{lanes, lane, noLane, laneOfByte}
 use Rattle.tie_rules.proofs.Lanes.{lanes-at}
 use Rattle.base_builder.specs.declared.observation.Sum.{Sum}

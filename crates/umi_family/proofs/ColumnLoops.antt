@@ -7,18 +7,18 @@ use native.Mathlib.Omega.{arith}
 use lib.Ieee.{Float}
 use lib.ListN.{length, take, drop, set, getD, length-map, length-set, drop-of-length-le}
 use lib.Seq.{drop-cons, take-suc, take-suc-set, take-take, take-all, getD-take}
-use Rattle.lent_bytes.specs.Lists.{lastOr, byteAt}
+use Rattle.words.specs.Lists.{lastOr, byteAt}
 use Rattle.lent_bytes.proofs.Lists.{bytes-from}
 use Rattle.refusals.specs.declared.Refusal.{Refusal}
 use Rattle.refusals.specs.declared.Verdict.the-variants.{Sound, Refused}
 use Rattle.refusals.specs.Result.{firstRefused}
-use Rattle.rate_tables.specs.Tables.{listed}
+use Rattle.words.specs.Lists.{listed}
 use Rattle.rate_tables.specs.declared.adjusted.AdjustedEntry.{AdjustedEntry}
 use Rattle.base_builder.specs.declared.builder.ConsensusBaseBuilder.{ConsensusBaseBuilder}
 use Rattle.umi_column.specs.Calls.{namedByte}
 use Rattle.umi_column.proofs.SumLaws.{sums-byte}
 use Rattle.tie_rules.specs.declared.tie_rule.TieRule.{TieRule}
-use Rattle.rate_tables.proofs.Filled.{listed-length, level-at}
+use Rattle.words.proofs.Listed.{listed-length, level-at}
 use Rattle.umi_column.specs.Verdicts.{verdictOf}
 use Rattle.umi_column.specs.declared.sums.LaneSums.{LaneSums}
 use Rattle.umi_column.specs.Sums.{windowOf, summedBy, summedAll}

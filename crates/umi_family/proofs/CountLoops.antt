@@ -9,10 +9,10 @@ use borrow.Author.Count.{below-more}
 use lib.Dec.{T, eqb, eqb→eq}
 use lib.ListN.{length, take, drop, set, getD-replicate, length-set, length-drop, replicate, drop-of-length-le}
 use lib.Seq.{getD-set-same, getD-set-other, getD-take, getD-drop, length-take-le}
-use Rattle.float.specs.Ops.{if_then_else_}
-use Rattle.float.specs.Claims.{every}
-use Rattle.float.proofs.Claims.{below}
-use Rattle.lent_bytes.specs.Lists.{byteAt}
+use Rattle.words.specs.Choice.{if_then_else_}
+use Rattle.words.specs.Claims.{everyFrom}
+use Rattle.words.proofs.Claims.{below}
+use Rattle.words.specs.Lists.{byteAt}
 use Rattle.lent_bytes.proofs.Lists.{bytes-from}
 use Rattle.tie_rules.specs.Lanes.{laneOfByte}
 use Rattle.umi_column.specs.Counts.{countOf}
@@ -24,8 +24,8 @@ use Rattle.umi_family.proofs.RowLoops.{given-length, given-at, row-lent
 unfoldable lettersAt : ℕ → ℕ → ℕ → ℕ → Bool
 lettersAt upper lower i x = eqb (hitBy upper lower x) (oneIn i x)
 
-letters : (T (every (lettersAt 65 97 0) 0 256)) × (T (every (lettersAt 67 99 1) 0 256)) × (T (every (lettersAt 71 103 2) 0 256)) × (T (every (lettersAt 84 116 3) 0 256))
-unfolding every lettersAt laneOfByte
+letters : (T (everyFrom (lettersAt 65 97 0) 0 256)) × (T (everyFrom (lettersAt 67 99 1) 0 256)) × (T (everyFrom (lettersAt 71 103 2) 0 256)) × (T (everyFrom (lettersAt 84 116 3) 0 256))
+unfolding everyFrom lettersAt laneOfByte
 letters = (tt, tt, tt, tt)
 
 module _ (x : ℕ) (h : x < 256) where

@@ -9,12 +9,12 @@ use borrow.Author.Tests.{lt-leb, leb-true, eqb-true, eq-eqb, ne-eqb}
 use lib.Dec.{eqb}
 use lib.ListN.{length, take, drop, length-drop}
 use lib.Seq.{length-take-le, getD-take, getD-drop}
-use Rattle.float.proofs.Cases.{test, clash, both, and-false}
-use Rattle.lent_bytes.specs.Lists.{any, every, byteAt}
-use Rattle.lent_bytes.proofs.Tests.{none-by-every}
+use Rattle.words.proofs.Cases.{test, clash, both, and-false}
+use Rattle.words.specs.Lists.{any, every, byteAt}
+use Rattle.words.proofs.Tests.{none-by-every}
 use Rattle.refusals.specs.declared.Verdict.the-variants.{Sound}
 use Rattle.refusals.specs.Result.{firstRefused}
-use Rattle.rate_tables.specs.Tables.{listed}
+use Rattle.words.specs.Lists.{listed}
 use Rattle.umi_column.specs.Dna.{toAsciiUppercase, isDnaBase}
 use Rattle.umi_column.specs.Verdicts.{isUnlike, verdictOf}
 use Rattle.umi_column.proofs.ColumnVerdicts.{first-dna-sound, no-dna-sound}

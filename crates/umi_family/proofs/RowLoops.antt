@@ -8,10 +8,10 @@ use native.Mathlib.Omega.{arith}
 use borrow.Author.Tests.{leb-true, ltb-true, lt-ltb, le-ltb, le-leb, lt-leb, eq-eqb}
 use lib.Dec.{leb, ltb}
 use lib.ListN.{length, take, drop, getD, length-map, drop-of-length-le}
-use Rattle.float.proofs.Cases.{both, and-false}
-use Rattle.lent_bytes.specs.Lists.{any, every, byteAt}
+use Rattle.words.proofs.Cases.{both, and-false}
+use Rattle.words.specs.Lists.{any, every, byteAt}
 use Rattle.lent_bytes.proofs.Lists.{bytes-from}
-use Rattle.lent_bytes.proofs.Tests.{any-more, any-found, any-none, every-more, every-failed, every-done}
+use Rattle.words.proofs.Tests.{any-more, any-found, any-none, every-more, every-failed, every-done}
 use Rattle.umi_family.specs.Rows.{fitting, Fits, isLike, likeRow}
 
 -- ---- places after which w bytes follow

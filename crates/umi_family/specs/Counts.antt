@@ -6,8 +6,8 @@ use mathlib.Core.Logic.{_≢_}
 use Prim.Native.Nat.{ℕ, _+_, _≤_, _<_}
 use lib.Dec.{eqb}
 use lib.ListN.{length, getD}
-use Rattle.float.specs.Ops.{if_then_else_}
-use Rattle.lent_bytes.specs.Lists.{byteAt}
+use Rattle.words.specs.Choice.{if_then_else_}
+use Rattle.words.specs.Lists.{byteAt}
 use Rattle.tie_rules.specs.Lanes.{laneOfByte}
 use Rattle.umi_column.specs.Counts.{countOf}
 use Rattle.umi_family.specs.Rows.{bytesAt}

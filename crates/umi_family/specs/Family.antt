@@ -4,8 +4,8 @@ use mathlib.Core.List.{List, map}
 use Prim.Native.Nat.{ℕ}
 use lib.Ieee.{Float}
 use lib.ListN.{length}
-use Rattle.float.specs.Ops.{if_then_else_}
-use Rattle.lent_bytes.specs.Lists.{any, lastOr, byteAt}
+use Rattle.words.specs.Choice.{if_then_else_}
+use Rattle.words.specs.Lists.{any, lastOr, byteAt}
 use Rattle.refusals.specs.declared.Refusal.the-variants.{CutOff, NotAscii}
 use Rattle.refusals.specs.declared.Verdict.{Verdict}
 use Rattle.refusals.specs.declared.Verdict.the-variants.{Refused}

@@ -4,8 +4,8 @@ use mathlib.Core.List.{List, [], _∷_, map}
 use Prim.Native.Nat.{ℕ, _+_, _≤_, _<_}
 use lib.Dec.{leb, ltb, eqb}
 use lib.ListN.{length, take, drop}
-use Rattle.lent_bytes.specs.Lists.{every, sameBytes, byteAt}
-use Rattle.rate_tables.specs.Tables.{listed}
+use Rattle.words.specs.Lists.{every, sameBytes, byteAt}
+use Rattle.words.specs.Lists.{listed}
 use Rattle.umi_column.specs.Dna.{isDnaBase}
 
 -- there are 1 to 255 places, and w bytes follow each of them

@@ -3,7 +3,7 @@ ghost use mathlib.Core.Path.{_≡_};
 ghost use Prim.Native.Nat.{_+_};
 ghost use lib.Dec.{leb};
 ghost use lib.ListN.{length, take, drop};
-ghost use Rattle.lent_bytes.specs.Lists.{any, every, byteAt};
+ghost use Rattle.words.specs.Lists.{any, every, byteAt};
 ghost use Rattle.umi_family.specs.Rows.{fitting, Fits, rowsAt, isHigh, differsFrom, likeRow};
 use lent_bytes::same_bytes;
 use umi_column::is_dna_base;

@@ -10,7 +10,7 @@ use native.Mathlib.Omega.{arith}
 use lib.Dec.{leb}
 use lib.Ieee.{Float, le}
 use borrow.Author.Tests.{le-leb, leb-true, leb-false}
-use Rattle.float.proofs.Cases.{test, clash, choice, both}
+use Rattle.words.proofs.Cases.{test, clash, choice, both}
 use Rattle.float.proofs.Order.{le-le}
 use Rattle.unanimous_shortcut.specs.Search.{entry, advanced, searched, partitionPoint, atOrBelow}
 

@@ -7,11 +7,12 @@ use native.Mathlib.Omega.{arith}
 use lib.Dec.{ltb, eqb}
 use lib.Ieee.{Float}
 use borrow.Author.Tests.{ltb-true, ltb-false, le-ltb, eq-eqb, ne-eqb}
-use Rattle.float.specs.Ops.{if_then_else_}
-use Rattle.float.proofs.Cases.{test}
+use Rattle.words.specs.Choice.{if_then_else_}
+use Rattle.words.proofs.Cases.{test}
 use Rattle.gap_tables.specs.declared.gaps.UnanimousGapTables.{UnanimousGapTables}
 use Rattle.tie_rules.specs.declared.tie_rule.TieRule.{TieRule}
-use Rattle.tie_rules.specs.Lanes.{counted, noLane, allBelow}
+use Rattle.tie_rules.specs.Lanes.{counted, noLane}
+use Rattle.words.specs.Claims.{allBelow}
 use Rattle.lane_calls.specs.declared.call.Reply.the-variants.{Deferred}
 use Rattle.unanimous_shortcut.specs.Sole.{seenOf, replyForLane}
 use Rattle.unanimous_shortcut.specs.Unanimous.{firstSeen, soleLane, unanimousReply}

@@ -5,7 +5,7 @@ use mathlib.Core.List.{List, [], _∷_}
 use lib.Dec.{leb}
 use lib.ListN.{getD}
 use lib.Ieee.{Float, nan, le}
-use Rattle.float.specs.Ops.{if_then_else_}
+use Rattle.words.specs.Choice.{if_then_else_}
 
 -- the entry of a level
 abbrev pub entry : List Float → ℕ → Float

@@ -5,11 +5,13 @@ use mathlib.Core.List.{List}
 use lib.Dec.{ltb, eqb}
 use lib.Ieee.{Float, lt, le}
 use lib.Ieee.Scale.{finite}
-use Rattle.float.specs.Ops.{_⊖_, _⊗_, bits, one, if_then_else_}
+use Rattle.float.specs.Ops.{_⊖_, _⊗_, bits, one}
+use Rattle.words.specs.Choice.{if_then_else_}
 use Rattle.phred.specs.Phred.{lnTwo}
 use Rattle.gap_tables.specs.declared.gaps.UnanimousGapTables.{UnanimousGapTables}
 use Rattle.tie_rules.specs.declared.tie_rule.TieRule.{TieRule}
-use Rattle.tie_rules.specs.Lanes.{lane, counted, noLane, allBelow}
+use Rattle.tie_rules.specs.Lanes.{lane, counted, noLane}
+use Rattle.words.specs.Claims.{allBelow}
 use Rattle.tie_rules.specs.Ties.{untied}
 use Rattle.lane_calls.specs.declared.call.Reply.{Reply}
 use Rattle.lane_calls.specs.declared.call.Reply.the-variants.{Replied, Deferred}

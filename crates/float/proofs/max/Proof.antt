@@ -2,7 +2,7 @@
 use mathlib.Core.Path.{_≡_, refl, sym, _∙_}
 use mathlib.Core.Bool.{Bool, true, false}
 use lib.Ieee.{Float, isNan}
-use Rattle.float.specs.Ops.{if_then_else_}
+use Rattle.words.specs.Choice.{if_then_else_}
 use Rattle.float.specs.Methods.{maxOf}
 use Rattle.float.proofs.Order.{ne-self, lt-numbers}
 use Rattle.float.proofs.max.Statement.{statement}

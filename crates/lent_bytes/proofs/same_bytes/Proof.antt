@@ -4,7 +4,7 @@ use mathlib.Core.Path.{_≡_, refl, sym, _∙_}
 use native.Mathlib.Omega.{arith}
 use lib.ListN.{length, drop}
 use borrow.Author.Needs.{needs}
-use Rattle.lent_bytes.specs.Lists.{sameBytes}
+use Rattle.words.specs.Lists.{sameBytes}
 use Rattle.lent_bytes.proofs.Same.{same-go-on, same-stop, same-end, same-lengths}
 use Rattle.lent_bytes.proofs.same_bytes.Statement.{statement}
 use Rattle.lent_bytes.proofs.same_bytes.Tie as tie

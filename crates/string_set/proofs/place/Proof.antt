@@ -4,7 +4,7 @@ use Prim.Native.Nat.{_+_, _-_, _≤_}
 use native.Mathlib.Omega.{arith}
 use borrow.Author.Needs.{needs}
 use lib.ListN.{length, length-set}
-use Rattle.lent_bytes.specs.Lists.{byteAt}
+use Rattle.words.specs.Lists.{byteAt}
 use Rattle.string_set.specs.StringSet.{readSet}
 use Rattle.string_set.specs.Places.{placesAfter}
 use Rattle.string_set.proofs.Placed.{ToPlace, to-place-all, to-place-inside, to-place-more, to-place-none}

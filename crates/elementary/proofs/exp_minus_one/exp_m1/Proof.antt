@@ -1,7 +1,7 @@
 use mathlib.Core.Path.{sym, ap, _∙_}
 use mathlib.Core.Logic.{⊎-elim}
 use borrow.Author.Tests.{not-true, not-false}
-use Rattle.float.proofs.Cases.{clash}
+use Rattle.words.proofs.Cases.{clash}
 use Rattle.elementary.specs.ExpMinusOne.{correctionOf, nearZeroOf, expMinusOneOf}
 use borrow.Author.Needs.{needs}
 use Rattle.elementary.proofs.exp_minus_one.exp_m1.Statement.{statement}

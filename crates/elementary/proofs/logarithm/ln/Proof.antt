@@ -2,8 +2,9 @@ use mathlib.Core.Path.{_≡_, refl}
 use mathlib.Core.Bool.{true, false}
 use mathlib.Core.Logic.{⊎-elim}
 use lib.Ieee.{Float, lt, le, eq, neg, isNan, ofBits}
-use Rattle.float.specs.Ops.{_⊗_, _⊘_, bits, nought, one, if_then_else_}
-use Rattle.float.proofs.Cases.{and-false}
+use Rattle.float.specs.Ops.{_⊗_, _⊘_, bits, nought, one}
+use Rattle.words.specs.Choice.{if_then_else_}
+use Rattle.words.proofs.Cases.{and-false}
 use Rattle.float.proofs.Order.{lt-numbers, le-numbers, lt-trans, lt-le, lt-not-le, not-lt-le}
 use Rattle.elementary.specs.Ln.{normalOf, lnOf}
 use Rattle.elementary.proofs.Numbers.{lt-le-lt, not-nan-mul}

@@ -5,7 +5,7 @@ use Prim.Native.Nat.{_-_, _≤_}
 use native.Mathlib.Omega.{arith}
 use borrow.Author.Needs.{needs}
 use lib.ListN.{length, length-set}
-use Rattle.rate_tables.proofs.Filled.{Filled, filled-more, filled-all}
+use Rattle.words.proofs.Listed.{Filled, filled-more, filled-all}
 use Rattle.gap_tables.specs.Gaps.{cerrFrom}
 use Rattle.gap_tables.proofs.gaps.cerr_table.Statement.{statement}
 use Rattle.gap_tables.proofs.gaps.cerr_table.Tie as tie

@@ -5,7 +5,7 @@ use native.Mathlib.Nat.{not-suc-le-zero}
 use native.Mathlib.Omega.{arith}
 use borrow.Author.Needs.{needs}
 use lib.ListN.{length, length-set}
-use Rattle.rate_tables.proofs.Filled.{Filled, filled-more, filled-all}
+use Rattle.words.proofs.Listed.{Filled, filled-more, filled-all}
 use Rattle.gap_tables.specs.Thresholds.{thresholdWith}
 use Rattle.gap_tables.specs.Gaps.{unanimousQualityFromGap}
 use Rattle.gap_tables.proofs.gaps.threshold_table.Statement.{statement}

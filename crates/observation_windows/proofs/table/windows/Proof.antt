@@ -5,7 +5,7 @@ use Prim.Native.Nat.{_-_, _≤_}
 use native.Mathlib.Omega.{arith}
 use borrow.Author.Needs.{needs}
 use lib.ListN.{length, length-set}
-use Rattle.rate_tables.proofs.Filled.{Filled, filled-more, filled-all}
+use Rattle.words.proofs.Listed.{Filled, filled-more, filled-all}
 use Rattle.observation_windows.specs.Windows.{windowEntry, windowsOf}
 use Rattle.observation_windows.proofs.table.windows.Statement.{statement}
 use Rattle.observation_windows.proofs.table.windows.Tie as tie

@@ -6,7 +6,7 @@ use lib.ListN.{getD}
 use lib.Ieee.{Float, nan}
 use Rattle.rate_tables.specs.Tables.{levels}
 use Rattle.rate_tables.specs.Adjusted.{correctAt, errorPerAltAt, adjustedTables}
-use Rattle.rate_tables.proofs.Filled.{level-at}
+use Rattle.words.proofs.Listed.{level-at}
 use borrow.Author.Needs.{needs}
 use Rattle.rate_tables.proofs.adjusted.adjusted_entry.Statement.{statement}
 use Rattle.rate_tables.proofs.adjusted.adjusted_entry.Tie as tie

@@ -7,7 +7,7 @@ use borrow.Author.Tests.{leb-true, leb-false, not-true, not-false}
 use borrow.Author.Needs.{needs}
 use lib.ListN.{length, take, drop, length-drop}
 use lib.Seq.{length-take-le}
-use Rattle.lent_bytes.specs.Lists.{byteAt}
+use Rattle.words.specs.Lists.{byteAt}
 use Rattle.refusals.specs.declared.Verdict.the-variants.{Sound}
 use Rattle.refusals.specs.Result.{Result, andThen}
 use Rattle.umi_family.specs.Rows.{rowsAt}

@@ -4,7 +4,7 @@ use mathlib.Core.List.{[], _∷_}
 use Prim.Native.Nat.{ℕ, min}
 use native.Mathlib.Omega.{arith}
 use lib.ListN.{List·getD-eq-default}
-use Rattle.float.proofs.Arms.{last}
+use Rattle.words.proofs.Arms.{last}
 use Rattle.tie_rules.specs.Lanes.{baseOf}
 use Rattle.tie_rules.proofs.lane.base_of.Statement.{statement}
 use Rattle.tie_rules.proofs.lane.base_of.Tie as tie

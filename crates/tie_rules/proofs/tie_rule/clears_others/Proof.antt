@@ -1,7 +1,7 @@
 -- `clears_others`: where every test passes, all three lanes are cleared. Assumes nothing.
 use mathlib.Core.Path.{refl}
 use borrow.Author.Needs.{needs}
-use Rattle.float.proofs.Cases.{clash}
+use Rattle.words.proofs.Cases.{clash}
 use Rattle.tie_rules.proofs.Clear.{all-clear}
 use Rattle.tie_rules.proofs.tie_rule.clears_others.Statement.{statement}
 use Rattle.tie_rules.proofs.tie_rule.clears_others.Tie as tie

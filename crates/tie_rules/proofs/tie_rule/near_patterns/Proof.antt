@@ -5,7 +5,7 @@ use Prim.Native.Nat.{ℕ, _+_, _-_, _^_, _≤_}
 use native.Mathlib.Omega.{arith}
 use lib.Dec.{leb}
 use borrow.Author.Tests.{not-true, not-false, le-leb, lt-leb, leb-true, leb-false}
-use Rattle.float.proofs.Cases.{test}
+use Rattle.words.proofs.Cases.{test}
 use Rattle.tie_rules.specs.Ties.{nearPatterns}
 use borrow.Author.Needs.{needs}
 use Rattle.tie_rules.proofs.tie_rule.near_patterns.Statement.{statement}

@@ -7,7 +7,8 @@ use lib.Dec.{eqb}
 use borrow.Author.Tests.{not-true, not-false}
 use borrow.Author.Needs.{needs}
 use Rattle.tie_rules.proofs.Lanes.{below-on, below-end, below-stop}
-use Rattle.tie_rules.specs.Lanes.{lane, allBelow}
+use Rattle.tie_rules.specs.Lanes.{lane}
+use Rattle.words.specs.Claims.{allBelow}
 use Rattle.tie_rules.specs.Ties.{tiesWith, untied}
 use Rattle.tie_rules.proofs.tie_rule.none_ties.Statement.{statement}
 use Rattle.tie_rules.proofs.tie_rule.none_ties.Tie as tie

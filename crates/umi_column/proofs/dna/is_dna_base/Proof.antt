@@ -4,8 +4,8 @@ use mathlib.Core.Bool.{Bool, true, false, _||_, Bool·beq}
 use Prim.Native.Nat.{ℕ}
 use native.Mathlib.Omega.{arith}
 use lib.Dec.{T, eqb}
-use Rattle.float.specs.Claims.{every}
-use Rattle.float.proofs.Claims.{below}
+use Rattle.words.specs.Claims.{everyFrom}
+use Rattle.words.proofs.Claims.{below}
 use Rattle.umi_column.specs.Dna.{toAsciiUppercase, isDnaBase}
 use Rattle.umi_column.proofs.dna.is_dna_base.Statement.{statement}
 use Rattle.umi_column.proofs.dna.is_dna_base.Tie as tie
@@ -24,8 +24,8 @@ tested x =
 unfoldable testedAt : ℕ → Bool
 testedAt x = Bool·beq (tested x) (isDnaBase x)
 
-all-tested : T (every testedAt 0 256)
-unfolding every testedAt isDnaBase toAsciiUppercase
+all-tested : T (everyFrom testedAt 0 256)
+unfolding everyFrom testedAt isDnaBase toAsciiUppercase
 all-tested = tt
 
 returns : tie.Need-returns

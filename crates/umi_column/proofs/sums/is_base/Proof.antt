@@ -2,7 +2,7 @@
 use mathlib.Core.Path.{_≡_, refl}
 use mathlib.Core.Bool.{Bool, true, false, _||_}
 use lib.Dec.{ltb, eqb}
-use Rattle.float.specs.Ops.{if_then_else_}
+use Rattle.words.specs.Choice.{if_then_else_}
 use Rattle.tie_rules.specs.Lanes.{laneOfByte}
 use Rattle.umi_column.proofs.sums.is_base.Statement.{statement}
 use Rattle.umi_column.proofs.sums.is_base.Tie as tie

@@ -6,9 +6,9 @@ use native.Mathlib.Omega.{arith}
 use borrow.Author.Tests.{lt-ltb, le-ltb, lt-leb}
 use lib.Dec.{T, ltb, leb, eqb, eqb→eq}
 use borrow.Author.Needs.{needs}
-use Rattle.float.specs.Ops.{if_then_else_}
-use Rattle.float.specs.Claims.{every}
-use Rattle.float.proofs.Claims.{below}
+use Rattle.words.specs.Choice.{if_then_else_}
+use Rattle.words.specs.Claims.{everyFrom}
+use Rattle.words.proofs.Claims.{below}
 use Rattle.tie_rules.specs.Lanes.{noLane, laneOfByte}
 use Rattle.umi_column.proofs.sums.window_start.Statement.{statement}
 use Rattle.umi_column.proofs.sums.window_start.Tie as tie
@@ -22,8 +22,8 @@ startOf x =
 unfoldable startsAt : ℕ → Bool
 startsAt x = leb noLane (laneOfByte x) || eqb (startOf x) (3 - laneOfByte x)
 
-starts : T (every startsAt 0 256)
-unfolding every startsAt laneOfByte
+starts : T (everyFrom startsAt 0 256)
+unfolding everyFrom startsAt laneOfByte
 starts = tt
 
 start : (x : ℕ) → x < 256 → laneOfByte x < noLane → startOf x ≡ 3 - laneOfByte x

@@ -4,9 +4,9 @@ use Prim.Native.Nat.{_-_, _≤_}
 use native.Mathlib.Omega.{arith}
 use borrow.Author.Needs.{needs}
 use lib.ListN.{length, drop}
-use Rattle.lent_bytes.specs.Lists.{any}
+use Rattle.words.specs.Lists.{any}
 use Rattle.umi_column.specs.Dna.{isDnaBase}
-use Rattle.lent_bytes.proofs.Tests.{any-more, any-found, any-none}
+use Rattle.words.proofs.Tests.{any-more, any-found, any-none}
 use Rattle.umi_column.proofs.verdicts.any_dna.Statement.{statement}
 use Rattle.umi_column.proofs.verdicts.any_dna.Tie as tie
 

@@ -7,11 +7,11 @@ use native.Mathlib.Omega.{arith}
 use borrow.Author.Needs.{needs}
 use borrow.Author.Tests.{eq-eqb, ne-eqb, not-true, not-false}
 use lib.ListN.{length, drop}
-use Rattle.float.proofs.Cases.{and-false}
-use Rattle.lent_bytes.specs.Lists.{any, byteAt}
+use Rattle.words.proofs.Cases.{and-false}
+use Rattle.words.specs.Lists.{any, byteAt}
 use Rattle.umi_column.specs.Dna.{isDnaBase}
 use Rattle.umi_column.specs.Verdicts.{isUnlike}
-use Rattle.lent_bytes.proofs.Tests.{any-more, any-found, any-none}
+use Rattle.words.proofs.Tests.{any-more, any-found, any-none}
 use Rattle.umi_column.proofs.verdicts.any_unlike.Statement.{statement}
 use Rattle.umi_column.proofs.verdicts.any_unlike.Tie as tie
 

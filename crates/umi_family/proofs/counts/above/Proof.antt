@@ -2,7 +2,7 @@
 use borrow.Author.Tests.{ltb-true}
 use lib.Dec.{ltb}
 use mathlib.Core.Bool.{_&&_}
-use Rattle.float.proofs.Cases.{both}
+use Rattle.words.proofs.Cases.{both}
 use Rattle.umi_family.proofs.counts.above.Statement.{statement}
 use Rattle.umi_family.proofs.counts.above.Tie as tie
 

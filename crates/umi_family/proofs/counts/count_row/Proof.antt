@@ -4,7 +4,7 @@ use Prim.Native.Nat.{ℕ, _+_, _-_, _≤_}
 use native.Mathlib.Omega.{arith}
 use borrow.Author.Needs.{needs}
 use lib.ListN.{length}
-use Rattle.lent_bytes.specs.Lists.{byteAt}
+use Rattle.words.specs.Lists.{byteAt}
 use Rattle.umi_family.proofs.CountLoops.{Passed, hits, passed-none, passed-room, passed-more, passed-all}
 use Rattle.umi_family.proofs.counts.count_row.Statement.{statement}
 use Rattle.umi_family.proofs.counts.count_row.Tie as tie

@@ -1,7 +1,7 @@
 -- `counts_decide`: the one rule, and the other. Assumes nothing.
 use mathlib.Core.Path.{refl, sym, _∙_}
 use borrow.Author.Needs.{needs}
-use Rattle.float.proofs.Cases.{clash}
+use Rattle.words.proofs.Cases.{clash}
 use Rattle.umi_family.proofs.counts.counts_decide.Statement.{statement}
 use Rattle.umi_family.proofs.counts.counts_decide.Tie as tie
 

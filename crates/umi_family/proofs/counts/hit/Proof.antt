@@ -6,7 +6,7 @@ use native.Mathlib.Omega.{arith}
 use borrow.Author.Needs.{needs}
 use lib.Dec.{eqb}
 use mir.Val.{boolByte}
-use Rattle.float.specs.Ops.{if_then_else_}
+use Rattle.words.specs.Choice.{if_then_else_}
 use Rattle.umi_family.proofs.counts.hit.Statement.{statement}
 use Rattle.umi_family.proofs.counts.hit.Tie as tie
 

@@ -6,8 +6,8 @@ use borrow.Author.Tests.{not-true, not-false}
 use borrow.Author.Needs.{needs}
 use lib.Dec.{leb}
 use lib.ListN.{length, drop}
-use Rattle.lent_bytes.specs.Lists.{every}
-use Rattle.lent_bytes.proofs.Tests.{every-more, every-failed, every-done}
+use Rattle.words.specs.Lists.{every}
+use Rattle.words.proofs.Tests.{every-more, every-failed, every-done}
 use Rattle.umi_family.proofs.RowLoops.{none-fit, too-many, each-fits}
 use Rattle.umi_family.proofs.rows.fit.Statement.{statement}
 use Rattle.umi_family.proofs.rows.fit.Tie as tie

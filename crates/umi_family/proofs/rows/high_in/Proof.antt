@@ -4,8 +4,8 @@ use Prim.Native.Nat.{_-_, _≤_}
 use native.Mathlib.Omega.{arith}
 use borrow.Author.Tests.{le-leb, lt-leb}
 use lib.ListN.{length, drop}
-use Rattle.lent_bytes.specs.Lists.{any}
-use Rattle.lent_bytes.proofs.Tests.{any-more, any-found, any-none}
+use Rattle.words.specs.Lists.{any}
+use Rattle.words.proofs.Tests.{any-more, any-found, any-none}
 use Rattle.umi_family.specs.Rows.{isHigh}
 use Rattle.umi_family.proofs.rows.high_in.Statement.{statement}
 use Rattle.umi_family.proofs.rows.high_in.Tie as tie

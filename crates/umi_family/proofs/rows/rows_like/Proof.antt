@@ -7,8 +7,8 @@ use native.Mathlib.Omega.{arith}
 use borrow.Author.Tests.{not-true, not-false}
 use borrow.Author.Needs.{needs}
 use lib.ListN.{length, take, drop, getD}
-use Rattle.lent_bytes.specs.Lists.{every, byteAt}
-use Rattle.lent_bytes.proofs.Tests.{every-first}
+use Rattle.words.specs.Lists.{every, byteAt}
+use Rattle.words.proofs.Tests.{every-first}
 use Rattle.umi_family.specs.Rows.{rowsAt, likeRow}
 use Rattle.umi_family.proofs.RowLoops.{given-at, row-lent, row-told, like-self, given-passed, given-failed, given-all}
 use Rattle.umi_family.proofs.rows.rows_like.Statement.{statement}

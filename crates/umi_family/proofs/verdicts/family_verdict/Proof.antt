@@ -5,8 +5,8 @@ use mathlib.Core.List.{List}
 use Prim.Native.Nat.{ℕ}
 use borrow.Author.Tests.{not-true, not-false}
 use borrow.Author.Needs.{needs}
-use Rattle.float.proofs.Cases.{test}
-use Rattle.lent_bytes.specs.Lists.{any}
+use Rattle.words.proofs.Cases.{test}
+use Rattle.words.specs.Lists.{any}
 use Rattle.refusals.specs.declared.Verdict.{Verdict}
 use Rattle.refusals.specs.Refusals.{verdictNumber}
 use Rattle.refusals.proofs.Numbers.{said-number}

@@ -3,8 +3,8 @@ use mathlib.Core.Path.{refl}
 use Prim.Native.Nat.{_+_}
 use native.Mathlib.Omega.{arith}
 use borrow.Author.Needs.{needs}
-use Rattle.float.proofs.Cases.{clash}
-use Rattle.lent_bytes.specs.Lists.{any, byteAt}
+use Rattle.words.proofs.Cases.{clash}
+use Rattle.words.specs.Lists.{any, byteAt}
 use Rattle.umi_family.specs.Rows.{isHigh}
 use Rattle.umi_family.proofs.RowLoops.{row-told}
 use Rattle.umi_family.proofs.Likeness.{like-sound}

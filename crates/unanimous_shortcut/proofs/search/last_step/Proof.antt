@@ -7,8 +7,8 @@ use lib.Dec.{ltb}
 use lib.Ieee.{Float, le}
 use borrow.Author.Needs.{needs}
 use borrow.Author.Tests.{ltb-true, ltb-false, le-leb}
-use Rattle.float.specs.Ops.{if_then_else_}
-use Rattle.float.proofs.Cases.{test}
+use Rattle.words.specs.Choice.{if_then_else_}
+use Rattle.words.proofs.Cases.{test}
 use Rattle.unanimous_shortcut.specs.Search.{entry, advanced}
 use Rattle.unanimous_shortcut.proofs.search.last_step.Statement.{statement}
 use Rattle.unanimous_shortcut.proofs.search.last_step.Tie as tie

@@ -1,0 +1,94 @@
+-- What document 01 asks of the four functions (port order, item 1), claim by claim. Definitions only.
+use Prim.Native.Nat.{ℕ, _-_, _^_}
+use mathlib.Core.Bool.{Bool, _&&_}
+use mathlib.Core.List.{List, [], _∷_}
+use lib.Ieee.{nan, neg}
+use lib.Ieee.Scale.{finite}
+use Rattle.float.specs.Ops.{bits, nought, one, infinite}
+use Rattle.float.specs.Claims.{same}
+use Rattle.words.specs.Claims.{everyFrom}
+use Rattle.elementary.specs.Exp.{powerOfTwoOf, expOf}
+use Rattle.elementary.specs.ExpMinusOne.{expMinusOneOf}
+use Rattle.elementary.specs.Ln.{lnOf}
+use Rattle.elementary.specs.LnOnePlus.{lnOnePlusOf}
+use Rattle.phred.specs.Phred.{phredToLnErrorProb}
+use Rattle.elementary_laws.specs.Fraction.{Fraction, value, ratio, plus, minus, times, power, atMost, within}
+
+-- at the point x = phred_to_ln_error_prob(q), with v = exp x: (v(1 - 2^-40))^10 · 10^q ≤ 1 ≤ (v(1 + 2^-40))^10 · 10^q
+unfoldable pub expAtLevel : ℕ → Bool
+expAtLevel q =
+    let v = expOf (phredToLnErrorProb q) in
+    let unit = ratio 1 1 in
+    let slack = ratio 1 (2 ^ 40) in
+    let scale = ratio (10 ^ q) 1 in
+    finite v && atMost (times (power (times (value v) (minus unit slack)) 10) scale) unit
+    && atMost unit (times (power (times (value v) (plus unit slack)) 10) scale)
+
+-- there ln v is within 2^-40 of x
+unfoldable pub lnAtLevel : ℕ → Bool
+lnAtLevel q =
+    let x = phredToLnErrorProb q in
+    let y = lnOf (expOf x) in
+    finite y && within (ratio 1 (2 ^ 40)) (value y) (value x)
+
+-- and exp(x) - 1, as computed at once, is within 2^-40 of v - 1
+unfoldable pub expMinusOneAtLevel : ℕ → Bool
+expMinusOneAtLevel q =
+    let x = phredToLnErrorProb q in
+    let y = expMinusOneOf x in
+    finite y && within (ratio 1 (2 ^ 40)) (value y) (minus (value (expOf x)) (ratio 1 1))
+
+-- u - u²/2 at u = 2^-k
+abbrev pub lessHalfSquare : ℕ → Fraction
+lessHalfSquare k = minus (ratio 1 (2 ^ k)) (times (ratio 1 2) (times (ratio 1 (2 ^ k)) (ratio 1 (2 ^ k))))
+
+-- at u = 2^-k ln(1 + u) is within u · 2^-39 of u - u²/2
+unfoldable pub lnOnePlusAtPower : ℕ → Bool
+lnOnePlusAtPower k =
+    let y = lnOnePlusOf (powerOfTwoOf (1023 - k)) in
+    finite y && within (times (ratio 1 (2 ^ k)) (ratio 1 (2 ^ 39))) (value y) (lessHalfSquare k)
+
+-- and exp(-u) - 1 of -u + u²/2
+unfoldable pub expMinusOneAtPower : ℕ → Bool
+expMinusOneAtPower k =
+    let y = expMinusOneOf (neg (powerOfTwoOf (1023 - k))) in
+    finite y && within (times (ratio 1 (2 ^ k)) (ratio 1 (2 ^ 39))) (value y) (minus (ratio 0 1) (lessHalfSquare k))
+
+-- at NaN, the zeros and the infinities, and at 1, -1 and below, the values that IEEE 754 names (section 9.2.1)
+abbrev pub named : List Bool
+named =
+    same (expOf nan) nan
+    ∷ same (expOf nought) one
+    ∷ same (expOf (neg nought)) one
+    ∷ same (expOf infinite) infinite
+    ∷ same (expOf (neg infinite)) nought
+    ∷ same (lnOf nan) nan
+    ∷ same (lnOf nought) (neg infinite)
+    ∷ same (lnOf (neg nought)) (neg infinite)
+    ∷ same (lnOf infinite) infinite
+    ∷ same (lnOf (neg infinite)) nan
+    ∷ same (lnOf one) nought
+    ∷ same (lnOf (neg one)) nan
+    ∷ same (lnOnePlusOf nan) nan
+    ∷ same (lnOnePlusOf nought) nought
+    ∷ same (lnOnePlusOf (neg nought)) (neg nought)
+    ∷ same (lnOnePlusOf infinite) infinite
+    ∷ same (lnOnePlusOf (neg infinite)) nan
+    ∷ same (lnOnePlusOf (neg one)) (neg infinite)
+    ∷ same (lnOnePlusOf (bits 0xc000_0000_0000_0000)) nan
+    ∷ same (expMinusOneOf nan) nan
+    ∷ same (expMinusOneOf nought) nought
+    ∷ same (expMinusOneOf (neg nought)) (neg nought)
+    ∷ same (expMinusOneOf infinite) infinite
+    ∷ same (expMinusOneOf (neg infinite)) (neg one)
+    ∷ []
+
+-- all of it: the 94 levels, k from 20 to 60, and the named values
+abbrev pub claims : List Bool
+claims =
+    everyFrom expAtLevel 0 94
+    ∷ everyFrom lnAtLevel 0 94
+    ∷ everyFrom expMinusOneAtLevel 0 94
+    ∷ everyFrom lnOnePlusAtPower 20 41
+    ∷ everyFrom expMinusOneAtPower 20 41
+    ∷ named

@@ -1,0 +1,19 @@
+-- `builder_bytes`: 80 bytes put over 80 bytes leave nothing of these. Assumes nothing.
+use borrow.Author.Needs.{needs}
+use Rattle.export_reports.specs.Bytes.{bytesOf}
+use Rattle.export_reports.specs.Report.{eachLane, builderBytes}
+use Rattle.export_reports.proofs.report.builder_bytes.Statement.{statement}
+use Rattle.export_reports.proofs.report.builder_bytes.Tie as tie
+
+slice-aggregate-put-builder : tie.Need-slice-aggregate-put-builder
+slice-aggregate-put-builder c = search needs
+
+put-builder-requires : tie.Need-put-builder-requires
+put-builder-requires c κs = search needs
+
+returns : tie.Need-returns
+unfolding builderBytes eachLane bytesOf
+returns c = search needs
+
+pub builder-bytes-spec : {M : Type 1} → statement M
+builder-bytes-spec = tie.close (tie.spec slice-aggregate-put-builder put-builder-requires returns)

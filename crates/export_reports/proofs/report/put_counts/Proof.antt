@@ -1,0 +1,74 @@
+-- `put_counts`: four puts of 4 bytes. Assumes nothing.
+use native.Mathlib.Omega.{arith}
+use lib.ListN.{getD}
+use Rattle.export_reports.specs.Report.{eachLane}
+use Rattle.export_reports.proofs.Puts.{put-then, put-length, bytes-length}
+use borrow.Author.Needs.{needs}
+use Rattle.export_reports.proofs.report.put_counts.Statement.{statement}
+use Rattle.export_reports.proofs.report.put_counts.Tie as tie
+
+array-read-put-number : tie.Need-array-read-put-number
+array-read-put-number c = search needs
+
+cast-put-number : tie.Need-cast-put-number
+cast-put-number c = search needs
+
+put-number-requires : tie.Need-put-number-requires
+put-number-requires c κs = search needs
+
+array-read-put-number-2 : tie.Need-array-read-put-number-2
+array-read-put-number-2 c = search needs
+
+cast-put-number-2 : tie.Need-cast-put-number-2
+cast-put-number-2 c = search needs
+
+put-number-requires-2 : tie.Need-put-number-requires-2
+put-number-requires-2 c κs = omega (arith, c .before .before .before .put-number .ensures .place, bytes-length 4 (getD (c .before .before .before .before .before .before .args .t3) 0 0))
+
+array-read-put-number-3 : tie.Need-array-read-put-number-3
+array-read-put-number-3 c = search needs
+
+cast-put-number-3 : tie.Need-cast-put-number-3
+cast-put-number-3 c = search needs
+
+put-number-requires-3 : tie.Need-put-number-requires-3
+put-number-requires-3 c κs = omega (arith, c .before .before .before .before .before .before .before .put-number .ensures .place, c .before .before .before .put-number2 .ensures .place, bytes-length 4 (getD (c .before .before .before .before .before .before .before .before .before .before .args .t3) 0 0), bytes-length 4 (getD (c .before .before .before .before .before .before .before .before .before .before .args .t3) 1 0))
+
+array-read-put-number-4 : tie.Need-array-read-put-number-4
+array-read-put-number-4 c = search needs
+
+cast-put-number-4 : tie.Need-cast-put-number-4
+cast-put-number-4 c = search needs
+
+put-number-requires-4 : tie.Need-put-number-requires-4
+put-number-requires-4 c κs = omega (arith, c .before .before .before .before .before .before .before .before .before .before .before .put-number .ensures .place, c .before .before .before .before .before .before .before .put-number2 .ensures .place, c .before .before .before .put-number3 .ensures .place, bytes-length 4 (getD (c .before .before .before .before .before .before .before .before .before .before .before .before .before .before .args .t3) 0 0), bytes-length 4 (getD (c .before .before .before .before .before .before .before .before .before .before .before .before .before .before .args .t3) 1 0), bytes-length 4 (getD (c .before .before .before .before .before .before .before .before .before .before .before .before .before .before .args .t3) 2 0))
+
+-- the puts, one after another
+whole : tie.Need-returns
+unfolding eachLane
+whole c = put-then (put-then (put-then (c .before .before .before .before .before .before .before .before .before .before .before .before .before .before .put-number .ensures) (c .before .before .before .before .before .before .before .before .before .before .put-number2 .ensures)) (c .before .before .before .before .before .before .put-number3 .ensures)) (c .before .before .put-number4 .ensures)
+
+same-length : tie.Need-same-length
+same-length c = put-length (whole c)
+
+returns : tie.Need-returns
+returns c = whole c
+
+pub put-counts-spec : {M : Type 1} → statement M
+put-counts-spec =
+    tie.close
+    (tie.spec
+    array-read-put-number
+    cast-put-number
+    put-number-requires
+    array-read-put-number-2
+    cast-put-number-2
+    put-number-requires-2
+    array-read-put-number-3
+    cast-put-number-3
+    put-number-requires-3
+    array-read-put-number-4
+    cast-put-number-4
+    put-number-requires-4
+    same-length
+    returns)

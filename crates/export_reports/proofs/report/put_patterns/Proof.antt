@@ -1,0 +1,75 @@
+-- `put_patterns`: four puts of 8 bytes. Assumes nothing.
+use native.Mathlib.Omega.{arith}
+use Rattle.export_reports.specs.Report.{eachLane}
+use Rattle.export_reports.proofs.Puts.{put-then, put-length, bytes-length}
+use borrow.Author.Needs.{needs}
+use Rattle.export_reports.proofs.report.put_patterns.Statement.{statement}
+use Rattle.export_reports.proofs.report.put_patterns.Tie as tie
+
+array-read-pattern : tie.Need-array-read-pattern
+array-read-pattern c = search needs
+
+pattern-requires : tie.Need-pattern-requires
+pattern-requires c κs = search needs
+
+put-number-requires : tie.Need-put-number-requires
+put-number-requires c κs = search needs
+
+array-read-pattern-2 : tie.Need-array-read-pattern-2
+array-read-pattern-2 c = search needs
+
+pattern-requires-2 : tie.Need-pattern-requires-2
+pattern-requires-2 c κs = search needs
+
+put-number-requires-2 : tie.Need-put-number-requires-2
+put-number-requires-2 c κs = omega (arith, c .before .before .before .before .put-number .ensures .place, bytes-length 8 (c .before .before .before .before .before .pattern .result))
+
+array-read-pattern-3 : tie.Need-array-read-pattern-3
+array-read-pattern-3 c = search needs
+
+pattern-requires-3 : tie.Need-pattern-requires-3
+pattern-requires-3 c κs = search needs
+
+put-number-requires-3 : tie.Need-put-number-requires-3
+put-number-requires-3 c κs = omega (arith, c .before .before .before .before .before .before .before .before .before .put-number .ensures .place, c .before .before .before .before .put-number2 .ensures .place, bytes-length 8 (c .before .before .before .before .before .before .before .before .before .before .pattern .result), bytes-length 8 (c .before .before .before .before .before .pattern2 .result))
+
+array-read-pattern-4 : tie.Need-array-read-pattern-4
+array-read-pattern-4 c = search needs
+
+pattern-requires-4 : tie.Need-pattern-requires-4
+pattern-requires-4 c κs = search needs
+
+put-number-requires-4 : tie.Need-put-number-requires-4
+put-number-requires-4 c κs = omega (arith, c .before .before .before .before .before .before .before .before .before .before .before .before .before .before .put-number .ensures .place, c .before .before .before .before .before .before .before .before .before .put-number2 .ensures .place, c .before .before .before .before .put-number3 .ensures .place, bytes-length 8 (c .before .before .before .before .before .before .before .before .before .before .before .before .before .before .before .pattern .result), bytes-length 8 (c .before .before .before .before .before .before .before .before .before .before .pattern2 .result), bytes-length 8 (c .before .before .before .before .before .pattern3 .result))
+
+-- the puts, one after another
+whole : tie.Need-returns
+unfolding eachLane
+whole c =
+    rw (← c .before .before .before .before .before .before .before .before .before .before .before .before .before .before .before .before .before .before .pattern .ensures, ← c .before .before .before .before .before .before .before .before .before .before .before .before .before .pattern2 .ensures, ← c .before .before .before .before .before .before .before .before .pattern3 .ensures, ← c .before .before .before .pattern4 .ensures)
+    (put-then (put-then (put-then (c .before .before .before .before .before .before .before .before .before .before .before .before .before .before .before .before .before .put-number .ensures) (c .before .before .before .before .before .before .before .before .before .before .before .before .put-number2 .ensures)) (c .before .before .before .before .before .before .before .put-number3 .ensures)) (c .before .before .put-number4 .ensures))
+
+same-length : tie.Need-same-length
+same-length c = put-length (whole c)
+
+returns : tie.Need-returns
+returns c = whole c
+
+pub put-patterns-spec : {M : Type 1} → statement M
+put-patterns-spec =
+    tie.close
+    (tie.spec
+    array-read-pattern
+    pattern-requires
+    put-number-requires
+    array-read-pattern-2
+    pattern-requires-2
+    put-number-requires-2
+    array-read-pattern-3
+    pattern-requires-3
+    put-number-requires-3
+    array-read-pattern-4
+    pattern-requires-4
+    put-number-requires-4
+    same-length
+    returns)

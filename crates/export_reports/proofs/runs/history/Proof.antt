@@ -1,0 +1,27 @@
+-- `history`: `run` on a new builder. Assumes nothing.
+use Rattle.export_reports.specs.Runs.{historyBytes}
+use borrow.Author.Needs.{needs}
+use Rattle.export_reports.proofs.runs.history.Statement.{statement}
+use Rattle.export_reports.proofs.runs.history.Tie as tie
+
+new-requires : tie.Need-new-requires
+new-requires c κs = search needs
+
+run-requires : tie.Need-run-requires
+run-requires c κs = search needs
+
+same-length : tie.Need-same-length
+same-length c = search needs
+
+returns : tie.Need-returns
+unfolding historyBytes
+returns c = rw (← c .before .before .before .before .new .ensures) (c .before .before .run .ensures)
+
+pub history-spec : {M : Type 1} → statement M
+history-spec =
+    tie.close
+    (tie.spec
+    new-requires
+    run-requires
+    same-length
+    returns)

@@ -1,0 +1,102 @@
+-- `run`: refused, too short, or all reports. Assumes nothing.
+use native.Mathlib.Omega.{arith}
+use mathlib.Core.Path.{_≡_, sym, _∙_, ap}
+use mathlib.Core.List.{List}
+use Prim.Native.Nat.{ℕ, _*_, _^_, _≤_, _<_}
+use borrow.Author.Tests.{not-true, not-false}
+use lib.ListN.{length}
+use Rattle.rate_tables.specs.Adjusted.{adjustedTables}
+use Rattle.gap_tables.specs.Gaps.{gapTables}
+use Rattle.export_scripts.specs.Script.{items}
+use Rattle.export_reports.specs.Runs.{reports, startOf, scriptBytes}
+use Rattle.export_reports.proofs.Lengths.{reports-length}
+use Rattle.lent_bytes.proofs.Buffer.{fits-written, short-written}
+use Rattle.export_reports.proofs.Buffers.{fits-replied, short-replied, none-replied, none-written, bad-rule, bad-script, good}
+use borrow.Author.Needs.{needs}
+use Rattle.export_reports.proofs.runs.run.Statement.{statement}
+use Rattle.export_reports.proofs.runs.run.Tie as tie
+
+returns : tie.Need-returns
+returns c =
+    let a = c .before .before .before .args in
+    let e = bad-rule (a .pre .0) (a .post .0) (a .rule) (a .script .now) (a .builder) (c .if1 .taken) in
+    (none-replied _ _ e, none-written _ _ e)
+
+is-script-requires : tie.Need-is-script-requires
+is-script-requires c κs = search needs
+
+returns-2 : tie.Need-returns-2
+returns-2 c =
+    let a = c .before .before .before .before .before .args in
+    let e = bad-script (a .pre .0) (a .post .0) (a .rule) (a .script .now) (a .builder) (c .before .before .if1 .left) (sym (c .before .is-script .ensures) ∙ not-true (c .before .is-script .result) (c .if2 .taken)) in
+    (none-replied _ _ e, none-written _ _ e)
+
+questions-in-requires : tie.Need-questions-in-requires
+questions-in-requires c κs = search needs
+
+-- the bytes that are asked for
+abbrev asks : tie.Start → List ℕ
+asks c = scriptBytes (c .args .pre .0) (c .args .post .0) (c .args .rule) (c .args .script .now) (c .args .builder)
+
+-- they are the reports of a good script
+whole : (c : tie.After-questions-in) → asks (c .before .before .before .before .before .before)
+    ≡ reports (adjustedTables (c .before .before .before .before .before .before .args .post .0)) (gapTables (c .before .before .before .before .before .before .args .pre .0)) (items (c .before .before .before .before .before .before .args .script .now)) (startOf (c .before .before .before .before .before .before .args .rule) (c .before .before .before .before .before .before .args .builder))
+whole c =
+    let a = c .before .before .before .before .before .before .args in
+    good (a .pre .0) (a .post .0) (a .rule) (a .script .now) (a .builder) (c .before .before .before .if1 .left) (sym (c .before .before .is-script .ensures) ∙ not-false (c .before .before .is-script .result) (c .before .if2 .left))
+
+size : (c : tie.After-questions-in) → length (asks (c .before .before .before .before .before .before)) ≡ 91 * c .questions-in .result
+size c =
+    let a = c .before .before .before .before .before .before .args in
+    ap length (whole c) ∙ reports-length (adjustedTables (a .post .0)) (gapTables (a .pre .0)) (items (a .script .now)) (startOf (a .rule) (a .builder)) ∙ ap (λ (n : ℕ). 91 * n) (sym (c .questions-in .ensures))
+
+returns-3 : tie.Need-returns-3
+returns-3 c =
+    let l = size (c .before) in
+    let h : length (c .before .before .before .before .before .before .before .args .out .now) < length (asks (c .before .before .before .before .before .before .before)) = omega (arith, c .if3 .taken) in
+    (short-replied (asks (c .before .before .before .before .before .before .before)) (c .before .before .before .before .before .before .before .args .out .now) h, short-written (asks (c .before .before .before .before .before .before .before)) (c .before .before .before .before .before .before .before .args .out .now) h)
+
+-- they fit
+few : (c : tie.Else3) → 91 * c .before .questions-in .result < 2 ^ 64
+few c = omega arith
+
+room : (c : tie.Else3) → length (asks (c .before .before .before .before .before .before .before)) ≤ length (c .before .before .before .before .before .before .before .args .out .now)
+room c = omega (arith, size (c .before), c .if3 .left)
+
+rule-of-requires : tie.Need-rule-of-requires
+rule-of-requires c κs = search needs
+
+with-tie-rule-requires : tie.Need-with-tie-rule-requires
+with-tie-rule-requires c κs = search needs
+
+put-script-requires : tie.Need-put-script-requires
+put-script-requires c κs = rw (c .before .with-tie-rule .ensures, c .before .before .rule-of .ensures, ← whole (c .before .before .before .before)) (room (c .before .before .before))
+
+mul-result : tie.Need-mul-result
+mul-result c = omega (arith, few (c .before .before .before .before .before .before))
+
+same-length : tie.Need-same-length
+same-length c = search needs
+
+returns-4 : tie.Need-returns-4
+returns-4 c =
+    let o = c .before .before .before .before .before .before .before .before .before .before .before .before .before .args .out .now in (
+      sym (size (c .before .before .before .before .before .before .before)) ∙ fits-replied (asks (c .before .before .before .before .before .before .before .before .before .before .before .before .before)) o (room (c .before .before .before .before .before .before)),
+      rw (c .before .before .before .before .with-tie-rule .ensures, c .before .before .before .before .before .rule-of .ensures, ← whole (c .before .before .before .before .before .before .before)) at (c .before .before .put-script .ensures) ∙ fits-written (asks (c .before .before .before .before .before .before .before .before .before .before .before .before .before)) o (room (c .before .before .before .before .before .before)),
+    )
+
+pub run-spec : {M : Type 1} → statement M
+run-spec =
+    tie.close
+    (tie.spec
+    returns
+    is-script-requires
+    returns-2
+    questions-in-requires
+    returns-3
+    rule-of-requires
+    with-tie-rule-requires
+    put-script-requires
+    mul-result
+    same-length
+    returns-4)

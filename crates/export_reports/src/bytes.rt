@@ -1,0 +1,30 @@
+// Bytes put into a lent buffer at a place. Each gives the next place.
+ghost use mathlib.Core.List.{[], _∷_};
+ghost use Prim.Native.Nat.{_+_, _≤_, _<_};
+ghost use lib.ListN.{length};
+ghost use Rattle.export_reports.specs.Bytes.{bytesOf, Put};
+
+pub(crate) fn put_byte(out: &mut [u8], at: usize, b: u8) -> usize
+    requires { ⌜ at < length (now out) ⌝ }
+    ensures { λ r. ⌜ Put (now (out .entry)) at (b ∷ []) (now (out .exit)) r ⌝ }
+{
+    out[at] = b;
+    at + 1
+}
+
+// A number as so many bytes, the low byte first.
+pub(crate) fn put_number(out: &mut [u8], at: usize, n: u64, width: usize) -> usize
+    requires { ⌜ at + width ≤ length (now out) ⌝ }
+    ensures { λ r. ⌜ Put (now (out .entry)) at (bytesOf width n) (now (out .exit)) r ⌝ }
+{
+    let mut rest = n;
+    let mut left = width;
+    let mut place = at;
+    while 0 < left {
+        out[place] = (rest % 256) as u8;
+        rest /= 256;
+        left -= 1;
+        place += 1;
+    }
+    place
+}

@@ -1,0 +1,68 @@
+-- The functions of a caller by number, with its builder afterwards behind the string. Definitions only.
+use Prim.Native.Nat.{ℕ}
+use mathlib.Core.List.{List, _++_}
+use lib.Dec.{leb, eqb}
+use lib.ListN.{length, replicate}
+use Rattle.words.specs.Choice.{if_then_else_}
+use Rattle.lent_bytes.specs.Buffer.{written}
+use Rattle.refusals.specs.Result.{Result, refused, accepted}
+use Rattle.export_reports.specs.Report.{builderBytes}
+use Rattle.simple_umi.specs.declared.caller.SimpleConsensusCaller.{SimpleConsensusCaller}
+use Rattle.simple_umi.specs.Consensus.{Found}
+use Rattle.simple_umi.specs.Answers.{callConsensusIn, consensusIn, duplexIn, answerOf, flaggedOf, duplexAnswerOf, pairFound}
+use Rattle.export_umi.specs.Codes.{answerCode, flaggedCode, duplexCode}
+
+-- room for every string
+abbrev pub room : List ℕ
+room = replicate 255 0
+
+-- the string and the 80 bytes of the builder
+abbrev pub recordOf : Found → List ℕ
+recordOf f = f .text ++ builderBytes (f .builder)
+
+-- the code, or 10 where the buffer can't hold these
+abbrev pub sentReply : ℕ → Result Found → List ℕ → ℕ
+sentReply code (refused r) out = code
+sentReply code (accepted f) out =
+    if leb (length (recordOf f)) (length out) then code
+    else 10
+
+-- what the buffer holds afterwards
+abbrev pub sentBuffer : Result Found → List ℕ → List ℕ
+sentBuffer (refused r) out = out
+sentBuffer (accepted f) out = written (recordOf f) out
+
+-- of each function
+abbrev pub callReply : SimpleConsensusCaller → List ℕ → List ℕ → ℕ
+callReply c set out = sentReply (answerCode (answerOf (callConsensusIn c set room))) (callConsensusIn c set room) out
+
+abbrev pub callBuffer : SimpleConsensusCaller → List ℕ → List ℕ → List ℕ
+callBuffer c set out = sentBuffer (callConsensusIn c set room) out
+
+abbrev pub consensusReply : SimpleConsensusCaller → List ℕ → List ℕ → ℕ
+consensusReply c set out = sentReply (flaggedCode (flaggedOf (consensusIn c set room))) (consensusIn c set room) out
+
+abbrev pub consensusBuffer : SimpleConsensusCaller → List ℕ → List ℕ → List ℕ
+consensusBuffer c set out = sentBuffer (consensusIn c set room) out
+
+abbrev pub duplexReply : SimpleConsensusCaller → List ℕ → List ℕ → ℕ
+duplexReply c set out = sentReply (duplexCode (duplexAnswerOf (duplexIn c set room))) (pairFound (duplexIn c set room)) out
+
+abbrev pub duplexBuffer : SimpleConsensusCaller → List ℕ → List ℕ → List ℕ
+duplexBuffer c set out = sentBuffer (pairFound (duplexIn c set room)) out
+
+-- 0 call_consensus, 1 consensus, 3 consensus_duplex; 0 for another number
+unfoldable pub callerReply : ℕ → SimpleConsensusCaller → List ℕ → List ℕ → ℕ
+callerReply which c set out =
+    if eqb which 0 then callReply c set out
+    else if eqb which 1 then consensusReply c set out
+    else if eqb which 3 then duplexReply c set out
+    else 0
+
+-- what the buffer holds afterwards
+unfoldable pub callerBuffer : ℕ → SimpleConsensusCaller → List ℕ → List ℕ → List ℕ
+callerBuffer which c set out =
+    if eqb which 0 then callBuffer c set out
+    else if eqb which 1 then consensusBuffer c set out
+    else if eqb which 3 then duplexBuffer c set out
+    else out
