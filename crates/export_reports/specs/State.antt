@@ -12,7 +12,7 @@ use Rattle.base_builder.specs.declared.builder.ConsensusBaseBuilder.{ConsensusB
 use Rattle.export_reports.specs.Bytes.{numberOf}
 use Rattle.export_reports.specs.Runs.{scriptBytes}
 
--- the number of the n bytes at a place
+-- the number of the n bytes at a place; a byte that is missing counts as 0
 unfoldable pub numberAt : List ℕ → ℕ → ℕ → ℕ
 numberAt s n at = numberOf (take n (drop at s))
 

@@ -7,4 +7,6 @@ mod state;
 
 pub use report::builder_bytes;
 pub use runs::history;
+pub use runs::history_by;
+pub use state::builder_of;
 pub use state::from_state;

@@ -11,9 +11,10 @@ ghost use Rattle.export_reports.specs.Report.{patternsOf, countsOf, buil
 use crate::bytes::put_byte;
 use crate::bytes::put_number;
 use base_builder::ConsensusBaseBuilder;
-use base_builder::call_with;
-use base_builder::try_unanimous_fast_path_with;
 use export_scripts::Progress;
+use export_ways::Way;
+use export_ways::call_by;
+use export_ways::try_unanimous_fast_path_by;
 use lane_calls::Call;
 use lane_calls::Reply;
 
@@ -82,6 +83,7 @@ fn put_reply(out: &mut [u8], at: usize, reply: Reply) -> usize
 
 // The four calls of a builder: both shortcuts, the long calculation, the call.
 fn put_calls(
+    way: Way,
     out: &mut [u8],
     at: usize,
     builder: ConsensusBaseBuilder,
@@ -92,15 +94,16 @@ fn put_calls(
     requires { ⌜ at + 10 ≤ length (now out) ⌝ }
     ensures { λ r. ⌜ Put (now (out .entry)) at (callsBytes (tablesOf (now (thresholds .entry)) (now («cerr_min» .entry)) cap) builder) (now (out .exit)) r ⌝ }
 {
-    let unanimous = try_unanimous_fast_path_with(builder, thresholds, cerr_min, cap);
+    let unanimous = try_unanimous_fast_path_by(way, builder, thresholds, cerr_min, cap);
     let multibase = builder.try_multibase_fast_path();
     let a = put_reply(out, at, unanimous);
     let b = put_reply(out, a, multibase);
     let c = put_call(out, b, builder.call_full());
-    put_call(out, c, call_with(builder, thresholds, cerr_min, cap))
+    put_call(out, c, call_by(way, builder, thresholds, cerr_min, cap))
 }
 
 fn put_report(
+    way: Way,
     out: &mut [u8],
     at: usize,
     progress: Progress,
@@ -113,12 +116,13 @@ fn put_report(
 {
     let builder = progress.builder;
     let a = put_builder(out, at, builder);
-    let b = put_calls(out, a, builder, thresholds, cerr_min, cap);
+    let b = put_calls(way, out, a, builder, thresholds, cerr_min, cap);
     put_byte(out, b, progress.refused)
 }
 
 // What an item of this kind writes: a report for a question, and nothing for an event.
 pub(crate) fn put_item(
+    way: Way,
     out: &mut [u8],
     at: usize,
     kind: u8,
@@ -133,5 +137,5 @@ pub(crate) fn put_item(
     if kind < 3 {
         return at;
     }
-    put_report(out, at, progress, thresholds, cerr_min, cap)
+    put_report(way, out, at, progress, thresholds, cerr_min, cap)
 }

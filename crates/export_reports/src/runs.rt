@@ -13,15 +13,17 @@ use crate::report::put_item;
 use base_builder::ConsensusBaseBuilder;
 use export_scripts::Progress;
 use export_scripts::is_script;
-use export_scripts::pass;
 use export_scripts::questions_in;
+use export_ways::Way;
+use export_ways::pass_by;
 use phred::PhredScore;
 use rate_tables::AdjustedProbabilityTables;
 use tie_rules::rule_of;
 
 // The reports of all items, one after another. The tables are lent: a copy at each item would cost
-// more than the item.
+// more than the item. Ways that take them by value copy them, as that is what they are here to run.
 fn put_reports(
+    way: Way,
     out: &mut [u8],
     start: Progress,
     script: &[u8],
@@ -38,8 +40,9 @@ fn put_reports(
     let mut at = 0;
     let mut i = 0;
     while i + 2 < script.len() {
-        at = put_item(out, at, script[i], progress, thresholds, cerr_min, cap);
-        progress = pass(
+        at = put_item(way, out, at, script[i], progress, thresholds, cerr_min, cap);
+        progress = pass_by(
+            way,
             progress,
             script[i],
             script[i + 1],
@@ -52,7 +55,14 @@ fn put_reports(
 }
 
 // The same with the tables of two rates, which are built once for the script.
-fn put_script(out: &mut [u8], pre: PhredScore, post: PhredScore, start: Progress, script: &[u8])
+fn put_script(
+    way: Way,
+    out: &mut [u8],
+    pre: PhredScore,
+    post: PhredScore,
+    start: Progress,
+    script: &[u8],
+)
     requires { ⌜ length (reports (adjustedTables (post .0)) (gapTables (pre .0)) (items (now script)) start) ≤ length (now out) ⌝ }
     ensures { λ _. ⌜ now (out .exit) ≡ sets (now (out .entry)) 0 (reports (adjustedTables (post .0)) (gapTables (pre .0)) (items (now (script .entry))) start) ⌝ }
 {
@@ -64,6 +74,7 @@ fn put_script(out: &mut [u8], pre: PhredScore, post: PhredScore, start: Progress
     let cerr_min = gaps.cerr_min;
     let cap = gaps.cap;
     put_reports(
+        way,
         out,
         start,
         script,
@@ -78,6 +89,7 @@ fn put_script(out: &mut [u8], pre: PhredScore, post: PhredScore, start: Progress
 // A script run on a builder: nothing is written where the rule or the script is bad, or the buffer
 // can't hold all reports.
 pub(crate) fn run(
+    way: Way,
     builder: ConsensusBaseBuilder,
     pre: PhredScore,
     post: PhredScore,
@@ -103,14 +115,37 @@ pub(crate) fn run(
         builder: builder.with_tie_rule(rule_of(rule)),
         refused: 0,
     };
-    put_script(out, pre, post, start, script);
+    put_script(way, out, pre, post, start, script);
     (91 * n) as u64
 }
 
-// A script run on a new builder of two rates.
+// A script run on a new builder of two rates, by any way: all write the same.
+pub fn history_by(
+    way: Way,
+    pre: PhredScore,
+    post: PhredScore,
+    rule: u8,
+    script: &[u8],
+    out: &mut [u8],
+) -> u64
+    ensures reply { λ r. ⌜ r ≡ replied (historyBytes (pre .0) (post .0) rule (now (script .entry))) (now (out .entry)) ⌝ }
+    ensures lent { λ _. ⌜ now (out .exit) ≡ written (historyBytes (pre .0) (post .0) rule (now (script .entry))) (now (out .entry)) ⌝ }
+{
+    run(
+        way,
+        ConsensusBaseBuilder::new(pre),
+        pre,
+        post,
+        rule,
+        script,
+        out,
+    )
+}
+
+// With the tables lent.
 pub fn history(pre: PhredScore, post: PhredScore, rule: u8, script: &[u8], out: &mut [u8]) -> u64
     ensures reply { λ r. ⌜ r ≡ replied (historyBytes (pre .0) (post .0) rule (now (script .entry))) (now (out .entry)) ⌝ }
     ensures lent { λ _. ⌜ now (out .exit) ≡ written (historyBytes (pre .0) (post .0) rule (now (script .entry))) (now (out .entry)) ⌝ }
 {
-    run(ConsensusBaseBuilder::new(pre), pre, post, rule, script, out)
+    history_by(Way::LentTables, pre, post, rule, script, out)
 }

@@ -1,19 +1,29 @@
 // A builder of 80 given bytes: reaches what no history gives.
 ghost use mathlib.Core.Path.{_≡_};
 ghost use Prim.Native.Nat.{_+_, _*_, _^_, _≤_, _<_};
-ghost use lib.ListN.{length};
 ghost use Rattle.float.specs.Ops.{bits};
 ghost use Rattle.tie_rules.specs.Lanes.{lanes};
+ghost use Rattle.words.specs.Lists.{byteAt};
 ghost use Rattle.lent_bytes.specs.Buffer.{replied, written};
 ghost use Rattle.export_reports.specs.State.{numberAt, builderOf, builderScriptBytes};
 use crate::runs::run;
 use base_builder::ConsensusBaseBuilder;
+use export_ways::Way;
 use phred::PhredScore;
 use tie_rules::TieRule;
 
+fn byte_at(state: &[u8], at: usize) -> u64
+    ensures { λ r. ⌜ (r ≡ byteAt (now (state .entry)) at) × (r < 256) ⌝ }
+{
+    if at < state.len() {
+        return state[at] as u64;
+    }
+    0
+}
+
 // The number of n bytes at a place, the low byte first.
 fn number_at(state: &[u8], n: usize, at: usize) -> u64
-    requires { ⌜ (at + n ≤ length (now state)) × (n ≤ 8) ⌝ }
+    requires { ⌜ (at + n ≤ 80) × (n ≤ 8) ⌝ }
     ensures { λ r. ⌜ r ≡ numberAt (now (state .entry)) n at ⌝ }
     ensures { λ r. ⌜ r < 256 ^ n ⌝ }
 {
@@ -21,13 +31,13 @@ fn number_at(state: &[u8], n: usize, at: usize) -> u64
     let mut left = n;
     while 0 < left {
         left -= 1;
-        number = number * 256 + state[at + left] as u64;
+        number = number * 256 + byte_at(state, at + left);
     }
     number
 }
 
 fn numbers_at(state: &[u8], at: usize) -> [f64; 4]
-    requires { ⌜ at + 32 ≤ length (now state) ⌝ }
+    requires { ⌜ at + 32 ≤ 80 ⌝ }
     ensures { λ r. ⌜ r ≡ lanes (λ i. bits (numberAt (now (state .entry)) 8 (at + 8 * i))) ⌝ }
 {
     [
@@ -39,14 +49,14 @@ fn numbers_at(state: &[u8], at: usize) -> [f64; 4]
 }
 
 fn count_at(state: &[u8], at: usize) -> u32
-    requires { ⌜ at + 4 ≤ length (now state) ⌝ }
+    requires { ⌜ at + 4 ≤ 80 ⌝ }
     ensures { λ r. ⌜ r ≡ numberAt (now (state .entry)) 4 at ⌝ }
 {
     number_at(state, 4, at) as u32
 }
 
-fn builder_of(pre: PhredScore, state: &[u8]) -> ConsensusBaseBuilder
-    requires { ⌜ 80 ≤ length (now state) ⌝ }
+// The builder of the first 80 bytes; those that are missing are 0.
+pub fn builder_of(pre: PhredScore, state: &[u8]) -> ConsensusBaseBuilder
     ensures { λ r. ⌜ r ≡ builderOf (pre .0) (now (state .entry)) ⌝ }
 {
     let likelihoods = numbers_at(state, 0);
@@ -80,5 +90,6 @@ pub fn from_state(
     if state.len() != 80 {
         return 0;
     }
-    run(builder_of(pre, state), pre, post, rule, script, out)
+    let builder = builder_of(pre, state);
+    run(Way::LentTables, builder, pre, post, rule, script, out)
 }

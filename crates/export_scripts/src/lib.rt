@@ -5,3 +5,4 @@ pub use script::Progress;
 pub use script::is_script;
 pub use script::pass;
 pub use script::questions_in;
+pub use script::refusals_after;

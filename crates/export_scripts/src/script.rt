@@ -62,7 +62,8 @@ pub fn questions_in(script: &[u8]) -> usize
     n
 }
 
-fn refusals_after(answer: Answer, n: u8) -> u8
+// The number of refusals after an answer.
+pub fn refusals_after(answer: Answer, n: u8) -> u8
     ensures { λ r. ⌜ r ≡ refusals answer n ⌝ }
 {
     match answer {

@@ -3,6 +3,8 @@ ghost use mathlib.Core.Path.{_≡_};
 ghost use Rattle.lent_bytes.specs.Buffer.{replied, written};
 ghost use Rattle.column_calls.specs.Times.{callsOf};
 ghost use Rattle.column_listing.specs.Listing.{listingOf};
+ghost use Rattle.column_listing.specs.Answers.{listedIn, listingBuffer};
+ghost use Rattle.export_listing.specs.Reply.{listingReply};
 
 // The text that the program prints, and its length; 0 where the buffer is too short.
 #[no_mangle]
@@ -11,6 +13,16 @@ pub extern "C" fn consensus_list(file: &[u8], out: &mut [u8]) -> u64
     ensures lent { λ _. ⌜ now (out .exit) ≡ written (listingOf (now (file .entry))) (now (out .entry)) ⌝ }
 {
     column_listing::print(file, out) as u64
+}
+
+// The listing, or the number of a refusal: below 256 that number, 10 where the buffer is too short, and
+// else 256 and the text's length.
+#[no_mangle]
+pub extern "C" fn consensus_listing(file: &[u8], out: &mut [u8]) -> u64
+    ensures reply { λ r. ⌜ r ≡ listingReply (listedIn (now (file .entry)) (now (out .entry))) ⌝ }
+    ensures lent { λ _. ⌜ now (out .exit) ≡ listingBuffer (now (out .entry)) (listedIn (now (file .entry)) (now (out .entry))) ⌝ }
+{
+    export_listing::listing(file, out)
 }
 
 // For timing: every column called so many times, all bases and qualities added up.

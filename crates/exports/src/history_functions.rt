@@ -1,9 +1,12 @@
-// A script of a builder's calls: the reports that it asks for, or how long it takes.
+// A script of a builder's calls: the reports that it asks for, or how long it takes; and what a builder
+// has counted.
 ghost use mathlib.Core.Path.{_≡_};
 ghost use Rattle.lent_bytes.specs.Buffer.{replied, written};
 ghost use Rattle.export_reports.specs.Runs.{historyBytes};
 ghost use Rattle.export_reports.specs.State.{builderScriptBytes};
 ghost use Rattle.export_timing.specs.Times.{timesOf};
+ghost use Rattle.export_observations.specs.Observations.{observationBytes};
+use export_ways::Way;
 use phred::PhredScore;
 
 // On a new builder of two rates.
@@ -19,6 +22,38 @@ pub extern "C" fn consensus_history(
     ensures lent { λ _. ⌜ now (out .exit) ≡ written (historyBytes pre post rule (now (script .entry))) (now (out .entry)) ⌝ }
 {
     export_reports::history(PhredScore(pre), PhredScore(post), rule, script, out)
+}
+
+// The same by the functions that take tables by value.
+#[no_mangle]
+pub extern "C" fn consensus_history_by_value(
+    pre: u8,
+    post: u8,
+    rule: u8,
+    script: &[u8],
+    out: &mut [u8],
+) -> u64
+    ensures reply { λ r. ⌜ r ≡ replied (historyBytes pre post rule (now (script .entry))) (now (out .entry)) ⌝ }
+    ensures lent { λ _. ⌜ now (out .exit) ≡ written (historyBytes pre post rule (now (script .entry))) (now (out .entry)) ⌝ }
+{
+    let way = Way::ByValue;
+    export_reports::history_by(way, PhredScore(pre), PhredScore(post), rule, script, out)
+}
+
+// The same by those that are lent the builder by &mut.
+#[no_mangle]
+pub extern "C" fn consensus_history_lent(
+    pre: u8,
+    post: u8,
+    rule: u8,
+    script: &[u8],
+    out: &mut [u8],
+) -> u64
+    ensures reply { λ r. ⌜ r ≡ replied (historyBytes pre post rule (now (script .entry))) (now (out .entry)) ⌝ }
+    ensures lent { λ _. ⌜ now (out .exit) ≡ written (historyBytes pre post rule (now (script .entry))) (now (out .entry)) ⌝ }
+{
+    let way = Way::LentBuilder;
+    export_reports::history_by(way, PhredScore(pre), PhredScore(post), rule, script, out)
 }
 
 // On a builder of 80 given bytes.
@@ -49,4 +84,13 @@ pub extern "C" fn consensus_history_times(
     ensures { λ r. ⌜ r ≡ timesOf pre post rule (now (script .entry)) times ⌝ }
 {
     export_timing::times(PhredScore(pre), PhredScore(post), rule, script, times)
+}
+
+// The counts of a builder of 80 given bytes, by the functions that say them.
+#[no_mangle]
+pub extern "C" fn consensus_observations(state: &[u8], out: &mut [u8]) -> u64
+    ensures reply { λ r. ⌜ r ≡ replied (observationBytes (now (state .entry))) (now (out .entry)) ⌝ }
+    ensures lent { λ _. ⌜ now (out .exit) ≡ written (observationBytes (now (state .entry))) (now (out .entry)) ⌝ }
+{
+    export_observations::observations(state, out)
 }

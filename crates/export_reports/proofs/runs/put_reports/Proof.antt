@@ -23,14 +23,14 @@ use Rattle.export_reports.proofs.runs.put_reports.Statement.{statement}
 use Rattle.export_reports.proofs.runs.put_reports.Tie as tie
 
 abbrev Inv-loop : tie.InvT-loop
-Inv-loop out₀ script correct error-per-alt thresholds cerr-min cap progress₀ at₀ i₀ out progress at i =
+Inv-loop way out₀ script correct error-per-alt thresholds cerr-min cap progress₀ at₀ i₀ out progress at i =
     (i ≤ length script)
     × (at + 91 * questions (items (drop i script)) ≤ length out)
     × (sets out at (reports (adjustedOf correct error-per-alt) (tablesOf thresholds cerr-min cap) (items (drop i script)) progress) ≡ sets out₀ 0 (reports (adjustedOf correct error-per-alt) (tablesOf thresholds cerr-min cap) (items script) progress₀))
     × (length out ≡ length out₀)
 
 abbrev μ-loop : tie.MeasureT-loop
-μ-loop out₀ script correct error-per-alt thresholds cerr-min cap progress₀ at₀ i₀ out progress at i = length script - i
+μ-loop way out₀ script correct error-per-alt thresholds cerr-min cap progress₀ at₀ i₀ out progress at i = length script - i
 
 loop-holds : tie.Need-loop-holds Inv-loop μ-loop
 loop-holds c =
@@ -52,23 +52,23 @@ put-item-requires c κs =
     let n = rw (le-ltb (getD s (l .i) 0) 3 h) at q in
     omega (arith, n, l .inv .1)
 
-shared-slice-read-pass : tie.Need-shared-slice-read-pass Inv-loop μ-loop
-shared-slice-read-pass c = search needs
+shared-slice-read-pass-by : tie.Need-shared-slice-read-pass-by Inv-loop μ-loop
+shared-slice-read-pass-by c = search needs
 
-add-pass : tie.Need-add-pass Inv-loop μ-loop
-add-pass c = search needs
+add-pass-by : tie.Need-add-pass-by Inv-loop μ-loop
+add-pass-by c = search needs
 
-shared-slice-read-pass-2 : tie.Need-shared-slice-read-pass-2 Inv-loop μ-loop
-shared-slice-read-pass-2 c = search needs
+shared-slice-read-pass-by-2 : tie.Need-shared-slice-read-pass-by-2 Inv-loop μ-loop
+shared-slice-read-pass-by-2 c = search needs
 
-add-pass-2 : tie.Need-add-pass-2 Inv-loop μ-loop
-add-pass-2 c = search needs
+add-pass-by-2 : tie.Need-add-pass-by-2 Inv-loop μ-loop
+add-pass-by-2 c = search needs
 
-shared-slice-read-pass-3 : tie.Need-shared-slice-read-pass-3 Inv-loop μ-loop
-shared-slice-read-pass-3 c = search needs
+shared-slice-read-pass-by-3 : tie.Need-shared-slice-read-pass-by-3 Inv-loop μ-loop
+shared-slice-read-pass-by-3 c = search needs
 
-pass-requires : tie.Need-pass-requires Inv-loop μ-loop
-pass-requires c κs = search needs
+pass-by-requires : tie.Need-pass-by-requires Inv-loop μ-loop
+pass-by-requires c κs = search needs
 
 -- the next place is a number of 64 bits
 small : (c : tie.In-loop Inv-loop μ-loop) → c .before .loop .i + 3 < 2 ^ 64
@@ -89,10 +89,10 @@ loop-again c =
     let g = tablesOf (a .thresholds .now) (a .cerr-min .now) (a .cap) in
     let h = c .before .before .before .before .before .before .before .before .before .loop-test .taken in
     let w = if ltb (getD s (l .i) 0) 3 then [] else reportOf g (l .progress) in
-    let put : Put (l .out) (l .at) w (c .before .before .before .before .before .before .put-item .last .0) (c .before .before .before .before .before .before .put-item .result) = c .before .before .before .before .before .before .put-item .ensures in (
+    let put : Put (l .out) (l .at) w (c .before .before .before .before .before .before .put-item .last .1 .0) (c .before .before .before .before .before .before .put-item .result) = c .before .before .before .before .before .before .put-item .ensures in (
       omega arith,
       omega (arith, put .place, put-length {t = w} put, said-length g (getD s (l .i) 0) (l .progress), questions-at s (l .i) h, l .inv .1),
-      rw (c .pass .ensures) (put-before {t = w} _ put ∙ sym (ap (sets (l .out) (l .at)) (turn t g s (l .i) (l .progress) h)) ∙ l .inv .2),
+      rw (c .pass-by .ensures) (put-before {t = w} _ put ∙ sym (ap (sets (l .out) (l .at)) (turn t g s (l .i) (l .progress) h)) ∙ l .inv .2),
       put-length {t = w} put ∙ l .inv .3,
     )
 
@@ -115,12 +115,12 @@ put-reports-spec =
     add-loop
     shared-slice-read-put-item
     put-item-requires
-    shared-slice-read-pass
-    add-pass
-    shared-slice-read-pass-2
-    add-pass-2
-    shared-slice-read-pass-3
-    pass-requires
+    shared-slice-read-pass-by
+    add-pass-by
+    shared-slice-read-pass-by-2
+    add-pass-by-2
+    shared-slice-read-pass-by-3
+    pass-by-requires
     add-i
     loop-less
     loop-again

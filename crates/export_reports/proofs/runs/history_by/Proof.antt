@@ -1,8 +1,8 @@
--- `history`: `run` on a new builder. Assumes nothing.
+-- `history_by`: `run` on a new builder. Assumes nothing.
 use Rattle.export_reports.specs.Runs.{historyBytes}
 use borrow.Author.Needs.{needs}
-use Rattle.export_reports.proofs.runs.history.Statement.{statement}
-use Rattle.export_reports.proofs.runs.history.Tie as tie
+use Rattle.export_reports.proofs.runs.history_by.Statement.{statement}
+use Rattle.export_reports.proofs.runs.history_by.Tie as tie
 
 new-requires : tie.Need-new-requires
 new-requires c κs = search needs
@@ -17,8 +17,8 @@ returns : tie.Need-returns
 unfolding historyBytes
 returns c = rw (← c .before .before .before .before .new .ensures) (c .before .before .run .ensures)
 
-pub history-spec : {M : Type 1} → statement M
-history-spec =
+pub history-by-spec : {M : Type 1} → statement M
+history-by-spec =
     tie.close
     (tie.spec
     new-requires

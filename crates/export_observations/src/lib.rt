@@ -1,0 +1,69 @@
+// What a builder of 80 given bytes has counted, by its three public functions that say so: what a driver
+// in C or Rust compares.
+ghost use mathlib.Core.Path.{_≡_};
+ghost use Prim.Native.Nat.{_+_, _≤_, _<_};
+ghost use lib.ListN.{length, getD};
+ghost use lib.Seq.{sets};
+ghost use Rattle.lent_bytes.specs.Buffer.{replied, written};
+ghost use Rattle.export_reports.specs.Bytes.{bytesOf};
+ghost use Rattle.export_observations.specs.Observations.{fourBytesEach, observationCounts, observationBytes};
+use base_builder::ConsensusBaseBuilder;
+use export_reports::builder_of;
+use phred::PhredScore;
+
+// Number j of the whole.
+fn count_at(builder: ConsensusBaseBuilder, j: usize) -> u32
+    requires { ⌜ j < 261 ⌝ }
+    ensures { λ r. ⌜ r ≡ getD (observationCounts builder) j 0 ⌝ }
+{
+    if j == 0 {
+        return builder.contributions();
+    }
+    if j < 257 {
+        return builder.observations_for_base((j - 1) as u8);
+    }
+    let all = builder.all_observations();
+    all[j - 257]
+}
+
+// A number as four bytes, the low byte first.
+fn put_four(out: &mut [u8], at: usize, n: u32)
+    requires { ⌜ at + 4 ≤ length (now out) ⌝ }
+    ensures { λ _. ⌜ now (out .exit) ≡ sets (now (out .entry)) at (bytesOf 4 n) ⌝ }
+{
+    let second = n / 256;
+    let third = second / 256;
+    let fourth = third / 256;
+    out[at] = (n % 256) as u8;
+    out[at + 1] = (second % 256) as u8;
+    out[at + 2] = (third % 256) as u8;
+    out[at + 3] = (fourth % 256) as u8;
+}
+
+fn put_counts(out: &mut [u8], builder: ConsensusBaseBuilder)
+    requires { ⌜ (length (observationCounts builder) ≡ 261) × (1044 ≤ length (now out)) ⌝ }
+    ensures { λ _. ⌜ now (out .exit) ≡ sets (now (out .entry)) 0 (fourBytesEach (observationCounts builder)) ⌝ }
+{
+    let mut j = 0;
+    while j < 261 {
+        put_four(out, 4 * j, count_at(builder, j));
+        j += 1;
+    }
+}
+
+// 1,044 bytes and as reply their number; or 0, and nothing written, where the state is not 80 bytes or
+// the buffer is too short.
+pub fn observations(state: &[u8], out: &mut [u8]) -> u64
+    ensures reply { λ r. ⌜ r ≡ replied (observationBytes (now (state .entry))) (now (out .entry)) ⌝ }
+    ensures lent { λ _. ⌜ now (out .exit) ≡ written (observationBytes (now (state .entry))) (now (out .entry)) ⌝ }
+{
+    if state.len() != 80 {
+        return 0;
+    }
+    if out.len() < 1044 {
+        return 0;
+    }
+    // No count depends on the rate.
+    put_counts(out, builder_of(PhredScore(0), state));
+    1044
+}
