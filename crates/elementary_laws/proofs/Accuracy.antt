@@ -41,7 +41,7 @@ named-values : T (all named)
 unfolding add sub mul div neg lt le eq ne ofBits toBits ofInt headOf lostOf productErrorOf fmaSmallProductOf fmaLargeProductOf expRowOf seriesOf powerOfTwoOf scaledOf from0Of nearOf expOf betweenOf lnRowOf ratioOf normalOf reducedOf expansionOf joinedOf numberOf lnOnePlusOf lnOf correctionOf nearZeroOf shiftedOf expMinusOneOf same
 named-values = tt
 
--- everyFrom claim of document 01's item 1
+-- every claim of document 01's item 1
 pub accuracy : T (all claims)
 accuracy =
     and-i (everyFrom expAtLevel 0 94) _ exp-levels

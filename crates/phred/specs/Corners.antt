@@ -14,7 +14,7 @@ unfoldable pub comesBack : ℕ → Bool
 comesBack q = eqb (lnProbToPhred (phredToLnErrorProb q)) (held q)
 
 -- In turn: the level of NaN, of the infinities, of -0.0, of 0.0; the logarithms of level 0; log1pexp(0) bit for bit; the panic of the Rust at the logarithms
--- (1, 1); the sum of no lanes, of lanes that are all -infinity, and of one lane that is not; everyFrom level from 0 to 93 comes back.
+-- (1, 1); the sum of no lanes, of lanes that are all -infinity, and of one lane that is not; every level from 0 to 93 comes back.
 abbrev pub corners : List Bool
 corners =
     eqb (lnProbToPhred nan) 2
