@@ -5,7 +5,7 @@ use mathlib.Core.List.{List}
 use lib.Dec.{leb, ltb, eqb}
 use lib.ListN.{getD, replicate}
 use lib.Ieee.{Float, nan}
-use Rattle.float.specs.Ops.{nought}
+use Rattle.float.specs.Ops.{plusZero}
 use Rattle.words.specs.Choice.{if_then_else_}
 use Rattle.phred.specs.Phred.{phredToLnErrorProb}
 use Rattle.phred.specs.declared.LogProbability.{LogProbability}
@@ -26,8 +26,8 @@ total ns = counted ns 0 + counted ns 1 + counted ns 2 + counted ns 3
 unfoldable pub cleared : TieRule → LogProbability → ConsensusBaseBuilder
 cleared rule pre =
     record {
-      likelihoods = replicate 4 nought;
-      compensations = replicate 4 nought;
+      likelihoods = replicate 4 plusZero;
+      compensations = replicate 4 plusZero;
       observations = replicate 4 0;
       «tie_rule» = rule;
       «ln_error_pre_umi» = pre;
@@ -38,8 +38,8 @@ unfoldable pub newAt : ℕ → ConsensusBaseBuilder
 newAt pre = cleared FgbioCompat (record { 0 = phredToLnErrorProb pre })
 
 -- the same builder under another rule
-unfoldable pub withRule : TieRule → ConsensusBaseBuilder → ConsensusBaseBuilder
-withRule rule b =
+unfoldable pub withTieRule : TieRule → ConsensusBaseBuilder → ConsensusBaseBuilder
+withTieRule rule b =
     record {
       likelihoods = b .likelihoods;
       compensations = b .compensations;

@@ -2,7 +2,7 @@
 // observed. It goes in by value and comes back.
 ghost use mathlib.Core.Path.{_≡_};
 ghost use Prim.Native.Nat.{_<_};
-ghost use Rattle.base_builder.specs.Builder.{total as totalOf, cleared as clearedOf, newAt, withRule, resetOf, movedLane, observed as observedOf, entryOf, addedBy, added, answerOf, numberOf, refusalOf, contributionsOf, observationsForBase};
+ghost use Rattle.base_builder.specs.Builder.{total as totalOf, cleared as clearedOf, newAt, withTieRule, resetOf, movedLane, observed as observedOf, entryOf, addedBy, added, answerOf, numberOf, refusalOf, contributionsOf, observationsForBase};
 use crate::observation::Sum;
 use crate::observation::count;
 use crate::observation::moved;
@@ -49,7 +49,7 @@ impl ConsensusBaseBuilder {
     }
 
     pub fn with_tie_rule(self, rule: TieRule) -> Self
-        ensures { λ r. ⌜ r ≡ withRule rule self ⌝ }
+        ensures { λ r. ⌜ r ≡ withTieRule rule self ⌝ }
     {
         let likelihoods = self.likelihoods;
         let compensations = self.compensations;
@@ -66,7 +66,7 @@ impl ConsensusBaseBuilder {
 
     // The same: by value the source's two functions are one.
     pub fn set_tie_rule(self, rule: TieRule) -> Self
-        ensures { λ r. ⌜ r ≡ withRule rule self ⌝ }
+        ensures { λ r. ⌜ r ≡ withTieRule rule self ⌝ }
     {
         self.with_tie_rule(rule)
     }

@@ -7,18 +7,18 @@ use lib.Dec.{eqb}
 use lib.ListN.{length}
 use lib.Ieee.{Float, lt, le, eq, sub, neg, div, isNan, ofBits}
 use borrow.Author.Tests.{eqb-true}
-use Rattle.float.specs.Ops.{nought}
+use Rattle.float.specs.Ops.{plusZero}
 use Rattle.float.specs.Methods.{absOf}
 use Rattle.words.proofs.Cases.{choice}
 use Rattle.rate_tables.specs.declared.adjusted.AdjustedProbabilityTables.{AdjustedProbabilityTables}
 use Rattle.rate_tables.specs.Adjusted.{adjustedTables}
 use Rattle.gap_tables.specs.Gaps.{gapTables}
-use Rattle.tie_rules.specs.declared.tie_rule.Run.{Run}
+use Rattle.tie_rules.specs.declared.tie_rule.Scan.{Scan}
 use Rattle.tie_rules.specs.declared.tie_rule.TieRule.{TieRule}
 use Rattle.tie_rules.specs.declared.tie_rule.TieRule.the-variants.{UlpRelative, FgbioCompat}
 use Rattle.tie_rules.specs.Lanes.{lane, noLane, baseOf}
 use Rattle.words.specs.Claims.{allBelow}
-use Rattle.tie_rules.specs.Ties.{fgbioTie, fgbioStep, ulpStep, scan, unseen, taken, cancelled, tiesWith, ulpTie, untied, fgbioUniqueMaxIndex, uniqueMaxIndex, notMinusInfinity, uniqueMaxIndexWith}
+use Rattle.tie_rules.specs.Ties.{fgbioTie, fgbioStep, ulpStep, scan, unseen, newLead, cancelled, tiesWith, ulpTie, untied, fgbioUniqueMaxIndex, uniqueMaxIndex, notMinusInfinity, uniqueMaxIndexWith}
 use Rattle.lane_calls.specs.declared.call.Call.{Call}
 use Rattle.lane_calls.specs.declared.call.Reply.{Reply}
 use Rattle.lane_calls.specs.declared.call.Reply.the-variants.{Replied, Deferred}
@@ -37,17 +37,17 @@ use Rattle.base_builder_laws.proofs.Replies.{full-base}
 use Rattle.base_builder_laws.proofs.SameBase.{unanimous-agrees, multibase-agrees}
 
 -- four lanes of 0 tie under either rule
-module _ (xs : List Float) (a : lane xs 0 ≡ nought) (c : lane xs 1 ≡ nought) (g : lane xs 2 ≡ nought) (t : lane xs 3 ≡ nought) where
+module _ (xs : List Float) (a : lane xs 0 ≡ plusZero) (c : lane xs 1 ≡ plusZero) (g : lane xs 2 ≡ plusZero) (t : lane xs 3 ≡ plusZero) where
   -- another 0 after the first cancels it
   fgbio-at : scan fgbioStep unseen xs 4 .at ≡ noLane
   unfolding scan fgbioStep fgbioTie absOf lt le sub isNan ofBits
   fgbio-at =
-      let first : scan fgbioStep unseen xs 1 ≡ taken nought 0 = ap (fgbioStep unseen 0) a in
-      let second : scan fgbioStep unseen xs 2 ≡ cancelled (taken nought 0) =
-      ap (λ (r : Run). fgbioStep r 1 (lane xs 1)) first ∙ ap (fgbioStep (taken nought 0) 1) c in
-      let third : scan fgbioStep unseen xs 3 ≡ cancelled (taken nought 0) =
-      ap (λ (r : Run). fgbioStep r 2 (lane xs 2)) second ∙ ap (fgbioStep (cancelled (taken nought 0)) 2) g in
-      ap (λ (r : Run). fgbioStep r 3 (lane xs 3) .at) third ∙ ap (λ (x : Float). fgbioStep (cancelled (taken nought 0)) 3 x .at) t
+      let first : scan fgbioStep unseen xs 1 ≡ newLead plusZero 0 = ap (fgbioStep unseen 0) a in
+      let second : scan fgbioStep unseen xs 2 ≡ cancelled (newLead plusZero 0) =
+      ap (λ (r : Scan). fgbioStep r 1 (lane xs 1)) first ∙ ap (fgbioStep (newLead plusZero 0) 1) c in
+      let third : scan fgbioStep unseen xs 3 ≡ cancelled (newLead plusZero 0) =
+      ap (λ (r : Scan). fgbioStep r 2 (lane xs 2)) second ∙ ap (fgbioStep (cancelled (newLead plusZero 0)) 2) g in
+      ap (λ (r : Scan). fgbioStep r 3 (lane xs 3) .at) third ∙ ap (λ (x : Float). fgbioStep (cancelled (newLead plusZero 0)) 3 x .at) t
 
   no-lane : (rule : TieRule) → uniqueMaxIndexWith xs rule ≡ noLane
   unfolding uniqueMaxIndexWith fgbioUniqueMaxIndex notMinusInfinity uniqueMaxIndex scan ulpStep untied tiesWith ulpTie allBelow lt eq neg div ofBits
@@ -75,7 +75,7 @@ module _ (t : AdjustedProbabilityTables) (os : List Observation) (b : ConsensusB
       let n = in-all in
       let most = had .most in
       let nil = none os (omega arith) in
-      let at : (i : ℕ) → i < 4 → lane (b .likelihoods) i ≡ nought =
+      let at : (i : ℕ) → i < 4 → lane (b .likelihoods) i ≡ plusZero =
       λ i h. ap (λ (s : Sum). s .lane) (had .sums i h ∙ ap (λ (l : List Observation). kahan (valuesOf t i l)) nil) in
       no-lane (b .likelihoods) (at 0 (omega arith)) (at 1 (omega arith)) (at 2 (omega arith)) (at 3 (omega arith)) (b .«tie_rule»)
 

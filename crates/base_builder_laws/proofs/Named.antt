@@ -11,12 +11,12 @@ use borrow.Author.Tests.{lt-ltb, ne-eqb, not-true}
 use Rattle.words.proofs.Cases.{clash}
 use Rattle.float.proofs.Order.{lt-asym}
 use Rattle.phred.specs.Phred.{lnZero}
-use Rattle.tie_rules.specs.declared.tie_rule.Run.{Run}
+use Rattle.tie_rules.specs.declared.tie_rule.Scan.{Scan}
 use Rattle.tie_rules.specs.declared.tie_rule.TieRule.{TieRule}
 use Rattle.tie_rules.specs.declared.tie_rule.TieRule.the-variants.{UlpRelative, FgbioCompat}
 use Rattle.tie_rules.proofs.Lanes.{below-at}
 use Rattle.tie_rules.specs.Lanes.{lane}
-use Rattle.tie_rules.specs.Ties.{fgbioTie, fgbioTested, tiesWith, untied, fgbioStep, ulpStep, scan, taken, unseen, lowest, fgbioUniqueMaxIndex, uniqueMaxIndex, notMinusInfinity, uniqueMaxIndexWith}
+use Rattle.tie_rules.specs.Ties.{fgbioTie, fgbioTested, tiesWith, untied, fgbioStep, ulpStep, scan, newLead, unseen, lowest, fgbioUniqueMaxIndex, uniqueMaxIndex, notMinusInfinity, uniqueMaxIndexWith}
 use Rattle.base_builder_laws.proofs.Scan.{FgbioUnder, UlpUnder, fgbio-wins, ulp-wins, wins}
 
 -- of another lane, the second half of 'i or ..'
@@ -48,17 +48,17 @@ module _ (xs : List Float) (i : ℕ) (inside : i < 4) (number : finite (lane xs 
       let t = not-true (tiesWith FgbioCompat i w j x) (other i j (not (tiesWith FgbioCompat i w j x)) d (below-at 4 (λ j. eqb i j || not (tiesWith FgbioCompat i w j (lane xs j))) j u k)) in
       sym (rw (lt-ltb i j l, lt-asym x w (above j k d))) ∙ t
 
-  fgbio-scan : untied FgbioCompat xs i w ≡ true → scan fgbioStep unseen xs 4 ≡ taken w i
+  fgbio-scan : untied FgbioCompat xs i w ≡ true → scan fgbioStep unseen xs 4 ≡ newLead w i
   fgbio-scan u =
       wins fgbioStep xs i (FgbioUnder w) (λ x. fgbioTie x w ≡ false) (fgbio-wins w (fin-number w number)) unseen (λ (s : false ≡ true). clash refl s) 4 inside
       (λ (j : ℕ) (k : j < 4) (d : j ≢ i). (above j k d, (λ (l : i < j). free u j k d l)))
 
-  ulp-scan : scan ulpStep lowest xs 4 ≡ taken w i
+  ulp-scan : scan ulpStep lowest xs 4 ≡ newLead w i
   ulp-scan =
       wins ulpStep xs i (UlpUnder w) (λ _. Unit {0}) (ulp-wins w) lowest (fin-above w number .1) 4 inside
       (λ (j : ℕ) (k : j < 4) (d : j ≢ i). (above j k d, (λ (l : i < j). tt)))
 
   pub named : (rule : TieRule) → untied rule xs i w ≡ true → uniqueMaxIndexWith xs rule ≡ i
   unfolding uniqueMaxIndexWith fgbioUniqueMaxIndex notMinusInfinity uniqueMaxIndex
-  named FgbioCompat u = ap (λ (r : Run). notMinusInfinity xs (r .at)) (fgbio-scan u) ∙ rw (lt-ltb i 4 inside, fin-above w number .0)
+  named FgbioCompat u = ap (λ (r : Scan). notMinusInfinity xs (r .at)) (fgbio-scan u) ∙ rw (lt-ltb i 4 inside, fin-above w number .0)
   named UlpRelative u = rw (ulp-scan, number, u)

@@ -9,7 +9,7 @@ use lib.Dec.{leb, eqb}
 use lib.ListN.{getD, getD-replicate, length}
 use lib.Ieee.{nan}
 use borrow.Author.Tests.{eqb-false, leb-false}
-use Rattle.float.specs.Ops.{nought}
+use Rattle.float.specs.Ops.{plusZero}
 use Rattle.words.specs.Choice.{if_then_else_}
 use Rattle.words.proofs.Cases.{choice}
 use Rattle.phred.specs.Phred.{phredToLnErrorProb}
@@ -21,7 +21,7 @@ use Rattle.tie_rules.specs.Lanes.{lane, noLane, laneOfByte, counted}
 use Rattle.tie_rules.proofs.Lanes.{lanes-at, lane-of-byte}
 use Rattle.base_builder.specs.declared.builder.ConsensusBaseBuilder.{ConsensusBaseBuilder}
 use Rattle.base_builder.specs.Observation.{countOf}
-use Rattle.base_builder.specs.Builder.{total, cleared, newAt, withRule, resetOf, sumOf, movedLane, observed, entryOf, isFull, addedBy, added}
+use Rattle.base_builder.specs.Builder.{total, cleared, newAt, withTieRule, resetOf, sumOf, movedLane, observed, entryOf, isFull, addedBy, added}
 use Rattle.base_builder.specs.History.{Event, add, reset, setTieRule, step, run, after}
 use Rattle.base_builder_laws.specs.Counted.{Observation, countedSince, valuesOf, kahan, timesOf}
 
@@ -35,7 +35,7 @@ pub record Holds (t : AdjustedProbabilityTables) (os : List Observation) (b : Co
 cleared-holds : (t : AdjustedProbabilityTables) (rule : TieRule) (pre : LogProbability) → Holds t [] (cleared rule pre)
 unfolding cleared valuesOf kahan timesOf
 cleared-holds t rule pre = record {
-  sums = λ (i : ℕ) (h : i < 4). rw (getD-replicate 4 i nought nan h);
+  sums = λ (i : ℕ) (h : i < 4). rw (getD-replicate 4 i plusZero nan h);
   counts = λ (i : ℕ) (h : i < 4). getD-replicate 4 i 0 0 h;
   all = refl;
   most = omega arith;
@@ -116,11 +116,11 @@ module _ (t : AdjustedProbabilityTables) where
       observed-holds t os b had (laneOfByte base) q (omega arith) (leb-false 4294967295 (length os) (n .1))))
 
   run-holds : (es : List Event) (os : List Observation) (b : ConsensusBaseBuilder) → Holds t os b → Holds t (countedSince os es) (run t es b)
-  unfolding countedSince run step resetOf withRule
+  unfolding countedSince run step resetOf withTieRule
   run-holds [] os b had = had
   run-holds (add base q ∷ es) os b had = run-holds es _ (added (t .correct) (t .«error_per_alt») base q b) (added-holds base q os b had)
   run-holds (reset ∷ es) os b had = run-holds es [] (resetOf b) (cleared-holds t (b .«tie_rule») (b .«ln_error_pre_umi»))
-  run-holds (setTieRule rule ∷ es) os b had = run-holds es os (withRule rule b) (record { sums = had .sums; counts = had .counts; all = had .all; most = had .most })
+  run-holds (setTieRule rule ∷ es) os b had = run-holds es os (withTieRule rule b) (record { sums = had .sums; counts = had .counts; all = had .all; most = had .most })
 
 -- after any list, from any builder at all that was reset
 pub reset-holds : (t : AdjustedProbabilityTables) (es : List Event) (b : ConsensusBaseBuilder) → Holds t (countedSince [] es) (run t (reset ∷ es) b)
@@ -129,8 +129,8 @@ reset-holds t es b = run-holds t es [] (resetOf b) (cleared-holds t (b .«tie_ru
 
 -- after any list, from a new builder at any two rates under either rule
 pub after-holds : (pre post : ℕ) (rule : TieRule) (es : List Event) → Holds (adjustedTables post) (countedSince [] es) (after pre post rule es)
-unfolding after newAt withRule cleared
+unfolding after newAt withTieRule cleared
 after-holds pre post rule es =
     let t = adjustedTables post in
     let new = cleared-holds t rule (record { 0 = phredToLnErrorProb pre }) in
-    run-holds t es [] (withRule rule (newAt pre)) new
+    run-holds t es [] (withTieRule rule (newAt pre)) new

@@ -5,7 +5,7 @@ use mathlib.Core.List.{List, [], _∷_}
 use lib.Dec.{leb, eqb}
 use lib.ListN.{getD, length}
 use lib.Ieee.{Float, nan}
-use Rattle.float.specs.Ops.{nought}
+use Rattle.float.specs.Ops.{plusZero}
 use Rattle.words.specs.Choice.{if_then_else_}
 use Rattle.rate_tables.specs.declared.adjusted.AdjustedProbabilityTables.{AdjustedProbabilityTables}
 use Rattle.tie_rules.specs.Lanes.{noLane, laneOfByte}
@@ -39,7 +39,7 @@ valuesOf t i (o ∷ os) =
 
 -- the sum of values by Kahan's rule, the latest first
 unfoldable pub kahan : List Float → Sum
-kahan [] = record { lane = nought; compensation = nought }
+kahan [] = record { lane = plusZero; compensation = plusZero }
 kahan (v ∷ vs) = movedBy v (kahan vs)
 
 -- how many of them are of lane i

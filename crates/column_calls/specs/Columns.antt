@@ -3,7 +3,7 @@ use mathlib.Core.List.{List, map}
 use Rattle.gap_tables.specs.Gaps.{gapTables}
 use Rattle.lane_calls.specs.declared.call.Call.{Call}
 use Rattle.base_builder.specs.declared.builder.ConsensusBaseBuilder.{ConsensusBaseBuilder}
-use Rattle.base_builder.specs.Builder.{newAt, withRule}
+use Rattle.base_builder.specs.Builder.{newAt, withTieRule}
 use Rattle.base_builder.specs.Calls.{callOf}
 use Rattle.base_builder.specs.History.{Event, add, after}
 use Rattle.column_file.specs.declared.settings.Settings.{Settings}
@@ -15,7 +15,7 @@ eventOf o = add (o .base) (o .quality)
 
 -- a new builder at a file's settings
 abbrev pub startOf : Settings → ConsensusBaseBuilder
-startOf g = withRule (g .«tie_rule») (newAt (g .«error_rate_pre_umi» .0))
+startOf g = withTieRule (g .«tie_rule») (newAt (g .«error_rate_pre_umi» .0))
 
 -- the builder of a column: a new one, after its observations in their order
 unfoldable pub builderOf : Settings → List Observation → ConsensusBaseBuilder

@@ -10,7 +10,7 @@ use lib.ListN.{length, take, drop}
 use lib.Seq.{take-append-seam}
 use lib.Ieee.{Float}
 use Rattle.words.proofs.Cases.{test, choice}
-use Rattle.lent_bytes.specs.Buffer.{replied, written}
+use Rattle.lent_bytes.specs.Buffer.{lengthWritten, written}
 use Rattle.lent_bytes.proofs.Buffer.{short-written}
 use Rattle.lent_text.specs.Printed.{Printed}
 use Rattle.lent_text.proofs.Printed.{printed-as, printed-written}
@@ -199,11 +199,11 @@ number-is (accepted t) = refl
 -- what an outcome says of what is printed
 abbrev Ended : List ℕ → Result (List ℕ) → Outcome → Type 0
 Ended out t (outcome.Refused r) = t ≡ refused r
-Ended out t outcome.TooShort = (0 ≡ replied (printed t) out) × (listingBuffer out (andThen t (roomFor out)) ≡ written (printed t) out)
-Ended out t (outcome.Written n) = (n ≡ replied (printed t) out) × (listingBuffer out (andThen t (roomFor out)) ≡ written (printed t) out)
+Ended out t outcome.TooShort = (0 ≡ lengthWritten (printed t) out) × (listingBuffer out (andThen t (roomFor out)) ≡ written (printed t) out)
+Ended out t (outcome.Written n) = (n ≡ lengthWritten (printed t) out) × (listingBuffer out (andThen t (roomFor out)) ≡ written (printed t) out)
 
 by-outcome : (out : List ℕ) (t : Result (List ℕ)) → Ended out t (outcomeOf out t)
-unfolding replied
+unfolding lengthWritten
 by-outcome out (refused r) = refl
 by-outcome out (accepted t) =
     choice (Ended out (accepted t)) (leb (length t) (length out)) (outcome.Written (length t)) outcome.TooShort
@@ -219,21 +219,21 @@ module _ (s out mid : List ℕ) (o : Outcome) (e : o ≡ outcomeOf out (listed s
       (answer, (k, ap listingNumber answer ∙ number-is (listedIn s out)))
 
   -- the line of a refused file goes into a buffer that is still as it was
-  pub print-refused : (r : Refusal) (n : ℕ) (l : List ℕ) → o ≡ outcome.Refused r → n ≡ replied (refusalLine r) mid → l ≡ written (refusalLine r) mid
-      → (n ≡ replied (listingOf s) out) × (l ≡ written (listingOf s) out)
+  pub print-refused : (r : Refusal) (n : ℕ) (l : List ℕ) → o ≡ outcome.Refused r → n ≡ lengthWritten (refusalLine r) mid → l ≡ written (refusalLine r) mid
+      → (n ≡ lengthWritten (listingOf s) out) × (l ≡ written (listingOf s) out)
   unfolding listedIn listingOf
   print-refused r n l h i j =
       let z : listed s ≡ refused r = subst (Ended out (listed s)) (sym e ∙ h) (by-outcome out (listed s)) in
       let same : mid ≡ out = k ∙ ap (λ (t : Result (List ℕ)). listingBuffer out (andThen t (roomFor out))) z in
       (i ∙ rw (z, same), j ∙ rw (z, same))
 
-  pub print-short : o ≡ outcome.TooShort → (0 ≡ replied (listingOf s) out) × (mid ≡ written (listingOf s) out)
+  pub print-short : o ≡ outcome.TooShort → (0 ≡ lengthWritten (listingOf s) out) × (mid ≡ written (listingOf s) out)
   unfolding listedIn listingOf
   print-short h =
       let z : Ended out (listed s) outcome.TooShort = subst (Ended out (listed s)) (sym e ∙ h) (by-outcome out (listed s)) in
       (z .0, k ∙ z .1)
 
-  pub print-written : (n : ℕ) → o ≡ outcome.Written n → (n ≡ replied (listingOf s) out) × (mid ≡ written (listingOf s) out)
+  pub print-written : (n : ℕ) → o ≡ outcome.Written n → (n ≡ lengthWritten (listingOf s) out) × (mid ≡ written (listingOf s) out)
   unfolding listedIn listingOf
   print-written n h =
       let z : Ended out (listed s) (outcome.Written n) = subst (Ended out (listed s)) (sym e ∙ h) (by-outcome out (listed s)) in
@@ -241,14 +241,14 @@ module _ (s out mid : List ℕ) (o : Outcome) (e : o ≡ outcomeOf out (listed s
 
 -- a line put at the front of a buffer
 module _ (t out bs l : List ℕ) (n : ℕ) (b : Bool) (e : bs ≡ t) (k : n ≡ length t) (h : b ≡ leb (length bs) (length out)) (w : l ≡ written bs out) where
-  pub line-put : b ≡ true → (n ≡ replied t out) × (l ≡ written t out)
-  unfolding replied
+  pub line-put : b ≡ true → (n ≡ lengthWritten t out) × (l ≡ written t out)
+  unfolding lengthWritten
   line-put y =
       let i : leb (length t) (length out) ≡ true = ap (λ (x : List ℕ). leb (length x) (length out)) (sym e) ∙ sym h ∙ y in
       (rw i k, w ∙ ap (λ (x : List ℕ). written x out) e)
 
-  pub line-not-put : b ≡ false → (0 ≡ replied t out) × (l ≡ written t out)
-  unfolding replied
+  pub line-not-put : b ≡ false → (0 ≡ lengthWritten t out) × (l ≡ written t out)
+  unfolding lengthWritten
   line-not-put y =
       let i : leb (length t) (length out) ≡ false = ap (λ (x : List ℕ). leb (length x) (length out)) (sym e) ∙ sym h ∙ y in
       (rw i, w ∙ ap (λ (x : List ℕ). written x out) e)

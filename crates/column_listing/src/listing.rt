@@ -3,7 +3,7 @@ ghost use mathlib.Core.Path.{_≡_};
 ghost use Prim.Native.Nat.{_+_, _*_, _≤_, _<_};
 ghost use lib.Dec.{leb};
 ghost use lib.ListN.{length};
-ghost use Rattle.lent_bytes.specs.Buffer.{replied, written};
+ghost use Rattle.lent_bytes.specs.Buffer.{lengthWritten, written};
 ghost use Rattle.refusals.specs.Refusals.{numberIn};
 ghost use Rattle.refusals.specs.Result.{accepted};
 ghost use Rattle.unanimous_shortcut.specs.Unanimous.{tablesOf};
@@ -175,7 +175,7 @@ pub fn list(file: &[u8], out: &mut [u8]) -> Listing
 
 // The line of a refused file, where it fits.
 fn print_refusal(refusal: Refusal, out: &mut [u8]) -> usize
-    ensures reply { λ r. ⌜ r ≡ replied (refusalLine refusal) (now (out .entry)) ⌝ }
+    ensures reply { λ r. ⌜ r ≡ lengthWritten (refusalLine refusal) (now (out .entry)) ⌝ }
     ensures lent { λ _. ⌜ now (out .exit) ≡ written (refusalLine refusal) (now (out .entry)) ⌝ }
 {
     let mut aside = [0u8; 16];
@@ -189,7 +189,7 @@ fn print_refusal(refusal: Refusal, out: &mut [u8]) -> usize
 // What the program prints for a file, the line of a refused one included, and how long it is; 0 where
 // the buffer is too short, which is then left as it is.
 pub fn print(file: &[u8], out: &mut [u8]) -> usize
-    ensures reply { λ r. ⌜ r ≡ replied (listingOf (now (file .entry))) (now (out .entry)) ⌝ }
+    ensures reply { λ r. ⌜ r ≡ lengthWritten (listingOf (now (file .entry))) (now (out .entry)) ⌝ }
     ensures lent { λ _. ⌜ now (out .exit) ≡ written (listingOf (now (file .entry))) (now (out .entry)) ⌝ }
 {
     let outcome = write(file, out);

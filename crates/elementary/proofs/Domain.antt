@@ -2,34 +2,34 @@
 use mathlib.Core.Path.{_≡_, refl}
 use mathlib.Core.Bool.{true}
 use lib.Ieee.{Float, nan, lt, le, neg, div, ofBits}
-use Rattle.float.specs.Ops.{_⊘_, bits, nought, one}
+use Rattle.float.specs.Ops.{_⊘_, bits, plusZero, one}
 use Rattle.words.proofs.Cases.{and-false}
 use Rattle.float.proofs.Order.{nan-not-lt, lt-asym, lt-trans, lt-not-eq, lt-not-le}
 use Rattle.elementary.specs.Ln.{lnOf}
 use Rattle.elementary.specs.LnOnePlus.{numberOf, lnOnePlusOf}
 
-zero-by-zero : nought ⊘ nought ≡ nan
+zero-by-zero : plusZero ⊘ plusZero ≡ nan
 unfolding div ofBits
 zero-by-zero = refl
 
 -- 0.9375, the least normal number and the largest are above 0
-below-one : lt nought (bits 0x3fee_0000_0000_0000) ≡ true
+below-one : lt plusZero (bits 0x3fee_0000_0000_0000) ≡ true
 unfolding lt ofBits
 below-one = refl
 
-least-normal : lt nought (bits 0x0010_0000_0000_0000) ≡ true
+least-normal : lt plusZero (bits 0x0010_0000_0000_0000) ≡ true
 unfolding lt ofBits
 least-normal = refl
 
-largest : lt nought (bits 0x7fef_ffff_ffff_ffff) ≡ true
+largest : lt plusZero (bits 0x7fef_ffff_ffff_ffff) ≡ true
 unfolding lt ofBits
 largest = refl
 
 -- ln of a negative number is NaN
-pub ln-negative : (x : Float) → lt x nought ≡ true → lnOf x ≡ nan
+pub ln-negative : (x : Float) → lt x plusZero ≡ true → lnOf x ≡ nan
 unfolding lnOf
 ln-negative x h =
-    rw (lt-not-le x _ (lt-trans x nought _ h below-one), lt-not-le x _ (lt-trans x nought _ h least-normal), lt-asym x _ (lt-trans x nought _ h largest), lt-asym x nought h, lt-not-eq x nought h .0) zero-by-zero
+    rw (lt-not-le x _ (lt-trans x plusZero _ h below-one), lt-not-le x _ (lt-trans x plusZero _ h least-normal), lt-asym x _ (lt-trans x plusZero _ h largest), lt-asym x plusZero h, lt-not-eq x plusZero h .0) zero-by-zero
 
 above-minus-one : lt (neg one) (bits 0xbfd2_bec4_0000_0000) ≡ true
 unfolding lt neg ofBits
@@ -43,4 +43,4 @@ number-below x h =
 -- ln(1 + x) is NaN for an x below -1
 pub ln-one-plus-below : (x : Float) → lt x (neg one) ≡ true → lnOnePlusOf x ≡ nan
 unfolding lnOnePlusOf
-ln-one-plus-below x h = rw (number-below x h, nan-not-lt nought, and-false (le nought x))
+ln-one-plus-below x h = rw (number-below x h, nan-not-lt plusZero, and-false (le plusZero x))

@@ -5,7 +5,7 @@ use mathlib.Core.Logic.{⊎-elim}
 use Prim.Native.Nat.{_*_}
 use lib.Dec.{T, eqb}
 use lib.Ieee.{Float, nan, inf, fin, binary64, up, down, unlike, mul, lt, le, eq, isNan, ofBits}
-use Rattle.float.specs.Ops.{_⊗_, nought}
+use Rattle.float.specs.Ops.{_⊗_, plusZero}
 use Rattle.words.proofs.Cases.{test, clash}
 use Rattle.float.proofs.Order.{lt-numbers, le-numbers, lt-trans, eq-lt, le-not-lt, le-or, not-lt-le, round-has, not-nan-add}
 use Rattle.elementary.specs.Exp.{shift, stepsOf}
@@ -44,11 +44,11 @@ lt-le-lt a b c h k =
     (⊎-elim (λ u. lt-trans c a b u h) (λ u. eq-lt c a b u h) (le-or c a (not-lt-le a c (lt-numbers a b h .0) (le-numbers b c k .1) f))))
 
 -- a number that is not 0 or more is below 0
-pub below-0 : (x : Float) → isNan x ≡ false → le nought x ≡ false → lt x nought ≡ true
+pub below-0 : (x : Float) → isNan x ≡ false → le plusZero x ≡ false → lt x plusZero ≡ true
 unfolding isNan ofBits
-below-0 x n h = test (lt x nought) (λ t. t) (λ f. clash h (not-lt-le x nought n refl f))
+below-0 x n h = test (lt x plusZero) (λ t. t) (λ f. clash h (not-lt-le x plusZero n refl f))
 
 -- 0 is equal to itself
-pub zero-equal : eq nought nought ≡ true
+pub zero-equal : eq plusZero plusZero ≡ true
 unfolding eq ofBits
 zero-equal = refl

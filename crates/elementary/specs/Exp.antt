@@ -4,7 +4,7 @@ use Prim.Native.Nat.{ℕ, _+_, _-_, _*_, _/_, _%_, _^_}
 use mathlib.Core.Bool.{Bool, _&&_}
 use lib.Dec.{leb, ltb}
 use lib.Ieee.{Float, binary64, toBits, lt, le, ne}
-use Rattle.float.specs.Ops.{_⊕_, _⊖_, _⊗_, bits, nought, infinite}
+use Rattle.float.specs.Ops.{_⊕_, _⊖_, _⊗_, bits, plusZero, plusInfinity}
 use Rattle.words.specs.Choice.{if_then_else_}
 use Rattle.elementary.specs.Fma.{fmaSmallProductOf}
 use Rattle.elementary_tables.specs.declared.exp_table.ExpRow.{ExpRow}
@@ -38,8 +38,8 @@ scaledOf y k =
 -- y, or 0 in place of a y that is below 0 or NaN
 unfoldable pub from0Of : Float → Float
 from0Of y =
-    if le nought y then y
-    else nought
+    if le plusZero y then y
+    else plusZero
 
 -- -746: below it the result is less than half of the least f64
 abbrev pub lowest : Float
@@ -48,7 +48,7 @@ lowest = bits 0xc087_5000_0000_0000
 -- exp x as h·(1 + t)·2^(k - 1100), for the h of the pattern head
 abbrev pub farOf : Float → ℕ → Float → ℕ → Float
 farOf x head t k =
-    if lt x lowest then nought
+    if lt x lowest then plusZero
     else from0Of (scaledOf (fmaSmallProductOf (bits head) t (bits head)) k)
 
 -- (128·k + j) + shift: the factor is 128/ln 2
@@ -86,7 +86,7 @@ nearOf x =
     let m = stepsOf x in
     let t = termOf x m in
     let y = raisedOf m t in
-    if inside m && le nought y then y
+    if inside m && le plusZero y then y
     else farOf x (rowAt m .head) t (powerAt m)
 
 -- exp x: from 710 on it is beyond the largest f64
@@ -94,4 +94,4 @@ unfoldable pub expOf : Float → Float
 expOf x =
     if lt x (bits 0x4086_3000_0000_0000) then nearOf x
     else if ne x x then x
-    else infinite
+    else plusInfinity

@@ -1,7 +1,7 @@
 -- exp(x) - 1: for a y near 0 it is y + y²/2 and a correction; a little further below 0 it is (exp(y) - 1)/2 - 1/2 at y = x + ln 2. Definitions only.
 use lib.Ieee.{Float, eq, neg}
 use Rattle.elementary.specs.declared.exp_minus_one.Correction.{Correction}
-use Rattle.float.specs.Ops.{_⊕_, _⊖_, _⊗_, _⊘_, bits, nought, one}
+use Rattle.float.specs.Ops.{_⊕_, _⊖_, _⊗_, _⊘_, bits, plusZero, one}
 use Rattle.words.specs.Choice.{if_then_else_}
 use Rattle.float.specs.Methods.{betweenOf}
 use Rattle.elementary.specs.Fma.{fmaSmallProductOf, fmaLargeProductOf}
@@ -76,5 +76,5 @@ expMinusOneOf x =
     let hi = x ⊕ bits 0x3fe6_2e42_fee0_0000 in
     let y = hi ⊕ lo in
     if betweenOf (neg (bits 0x3fd6_2e43_0000_0000)) x (bits 0x3fd6_2e43_0000_0000) then nearZeroOf x (correctionOf x)
-    else if betweenOf (neg (bits 0x3ff0_a2b2_0000_0000)) x nought then shiftedOf y (hi ⊖ y ⊕ lo) (correctionOf y)
+    else if betweenOf (neg (bits 0x3ff0_a2b2_0000_0000)) x plusZero then shiftedOf y (hi ⊖ y ⊕ lo) (correctionOf y)
     else expOf x ⊖ one

@@ -4,7 +4,7 @@ use Prim.Native.Nat.{_+_, _/_, _%_, _^_}
 use mathlib.Core.Bool.{_&&_}
 use lib.Ieee.{Float, binary64, toBits, lt, le, eq, neg}
 use Rattle.elementary_tables.specs.declared.ln_table.LnRow.{LnRow}
-use Rattle.float.specs.Ops.{_⊕_, _⊖_, _⊗_, _⊘_, bits, whole, nought, one}
+use Rattle.float.specs.Ops.{_⊕_, _⊖_, _⊗_, _⊘_, bits, whole, plusZero, one}
 use Rattle.words.specs.Choice.{if_then_else_}
 use Rattle.elementary.specs.Fma.{fmaSmallProductOf}
 use Rattle.elementary_tables.specs.LnTable.{lnRowOf}
@@ -45,6 +45,6 @@ lnOf x =
     if le (bits 0x3fee_0000_0000_0000) x && lt x (bits 0x3ff1_0900_0000_0000) then lnOnePlusOf (x ⊖ one)
     else if le (bits 0x0010_0000_0000_0000) x && le x (bits 0x7fef_ffff_ffff_ffff) then normalOf x (bits 0x408f_f800_0000_0000)
     else if lt (bits 0x7fef_ffff_ffff_ffff) x then x
-    else if lt nought x then normalOf (x ⊗ bits 0x4330_0000_0000_0000) (bits 0x4090_cc00_0000_0000)
-    else if eq x nought then neg one ⊘ nought
-    else nought ⊘ nought
+    else if lt plusZero x then normalOf (x ⊗ bits 0x4330_0000_0000_0000) (bits 0x4090_cc00_0000_0000)
+    else if eq x plusZero then neg one ⊘ plusZero
+    else plusZero ⊘ plusZero

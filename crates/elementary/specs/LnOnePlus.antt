@@ -4,7 +4,7 @@ use mathlib.Core.Bool.{_&&_}
 use lib.Ieee.{Float, binary64, toBits, lt, le, eq, neg}
 use Rattle.elementary.specs.declared.ln_one_plus.Parts.{Parts}
 use Rattle.elementary.specs.declared.ln_one_plus.Series.{Series}
-use Rattle.float.specs.Ops.{_⊕_, _⊖_, _⊗_, _⊘_, bits, whole, nought, one}
+use Rattle.float.specs.Ops.{_⊕_, _⊖_, _⊗_, _⊘_, bits, whole, plusZero, one}
 use Rattle.words.specs.Choice.{if_then_else_}
 use Rattle.float.specs.Methods.{betweenOf}
 use Rattle.elementary.specs.Fma.{fmaLargeProductOf}
@@ -55,7 +55,7 @@ restOf a low = a .s ⊗ (a .half ⊕ (a .top ⊕ (a .middle ⊕ low)))
 -- k·ln 2 + ln(1 + f) + c with that low, ln 2 in two parts so that its product with the first is exact; without c where k is 0
 abbrev pub sumOf : Parts → Series → Float → Float
 sumOf t a low =
-    if eq (t .k) nought then t .f ⊖ (a .half ⊖ restOf a low)
+    if eq (t .k) plusZero then t .f ⊖ (a .half ⊖ restOf a low)
     else t .k ⊗ bits 0x3fe6_2e42_fee0_0000 ⊖ (a .half ⊖ (restOf a low ⊕ (t .k ⊗ bits 0x3dea_39ef_3579_3c76 ⊕ t .c)) ⊖ t .f)
 
 -- the same with the first three terms added up in one rounding. Such a sum lies between those with the two numbers beside the first coefficient, and no
@@ -75,17 +75,17 @@ numberOf x =
     if lt (bits 0xbfd2_bec4_0000_0000) x then
     (if lt x (bits 0x3fda_827a_0000_0000) then
     (if betweenOf (neg (bits 0x3e20_0000_0000_0000)) x (bits 0x3e20_0000_0000_0000) then x ⊖ x ⊗ x ⊗ half
-    else joinedOf (record { f = x; k = nought; c = nought }))
+    else joinedOf (record { f = x; k = plusZero; c = plusZero }))
     else if lt x (bits 0x3ffc_0000_0000_0000) then joinedOf (record { f = u ⊗ half ⊖ one; k = one; c = (x ⊖ (u ⊖ one)) ⊘ u })
     else if lt (bits 0x7fef_ffff_ffff_ffff) x then x
     else joinedOf (reducedOf x))
     else if lt (neg one) x then joinedOf (reducedOf x)
-    else if eq x (neg one) then neg one ⊘ nought
-    else nought ⊘ nought
+    else if eq x (neg one) then neg one ⊘ plusZero
+    else plusZero ⊘ plusZero
 
 -- ln(1 + x). The 0 is never given: with this test no x from 0 on has a result below 0.
 unfoldable pub lnOnePlusOf : Float → Float
 lnOnePlusOf x =
     let y = numberOf x in
-    if le nought x && lt y nought then nought
+    if le plusZero x && lt y plusZero then plusZero
     else y

@@ -3,7 +3,7 @@
 ghost use mathlib.Core.Path.{_≡_};
 ghost use mathlib.Core.Bool.{true, false};
 ghost use lib.Ieee.{le, eq, isNan};
-ghost use Rattle.float.specs.Ops.{nought};
+ghost use Rattle.float.specs.Ops.{plusZero};
 ghost use Rattle.elementary.specs.LnOnePlus.{reducedOf, expansionOf, restOf, joinedOf, numberOf, lnOnePlusOf};
 use crate::fma::fma_large_product;
 
@@ -62,7 +62,7 @@ pub fn ln_1p(x: f64) -> f64
 
 // ln(1 + x) for an x from 0 on, before that test.
 fn from_zero(x: f64) -> f64
-    requires { ⌜ le nought x ≡ true ⌝ }
+    requires { ⌜ le plusZero x ≡ true ⌝ }
     ensures { λ r. ⌜ r ≡ numberOf x ⌝ }
 {
     if x < HIGH {
@@ -83,7 +83,7 @@ fn from_zero(x: f64) -> f64
 
 // The same for an x below 0, and for NaN.
 fn below_zero(x: f64) -> f64
-    requires { ⌜ le nought x ≡ false ⌝ }
+    requires { ⌜ le plusZero x ≡ false ⌝ }
     ensures { λ r. ⌜ r ≡ numberOf x ⌝ }
 {
     if x > LOW {
@@ -162,7 +162,7 @@ fn rest(a: Series, low: f64) -> f64
 // ln(1 + f). The first term and low are added with one rounding. Their sum lies between those with
 // the numbers beside L1, so where these two lead to one result, that is it.
 fn near(f: f64) -> f64
-    ensures { λ r. ⌜ r ≡ joinedOf (record { f = f; k = nought; c = nought }) ⌝ }
+    ensures { λ r. ⌜ r ≡ joinedOf (record { f = f; k = plusZero; c = plusZero }) ⌝ }
 {
     let a = expansion(f);
     let y = f - (a.half - rest(a, a.z * L1_BELOW + a.low));
@@ -174,7 +174,7 @@ fn near(f: f64) -> f64
 
 // k * ln 2 + ln(1 + f) + c in the same way.
 fn far(f: f64, k: f64, c: f64) -> f64
-    requires { ⌜ eq k nought ≡ false ⌝ }
+    requires { ⌜ eq k plusZero ≡ false ⌝ }
     ensures { λ r. ⌜ r ≡ joinedOf (record { f = f; k = k; c = c }) ⌝ }
 {
     let a = expansion(f);

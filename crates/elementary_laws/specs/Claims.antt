@@ -4,7 +4,7 @@ use mathlib.Core.Bool.{Bool, _&&_}
 use mathlib.Core.List.{List, [], _∷_}
 use lib.Ieee.{nan, neg}
 use lib.Ieee.Scale.{finite}
-use Rattle.float.specs.Ops.{bits, nought, one, infinite}
+use Rattle.float.specs.Ops.{bits, plusZero, one, plusInfinity}
 use Rattle.float.specs.Claims.{same}
 use Rattle.words.specs.Claims.{everyFrom}
 use Rattle.elementary.specs.Exp.{powerOfTwoOf, expOf}
@@ -58,29 +58,29 @@ expMinusOneAtPower k =
 abbrev pub named : List Bool
 named =
     same (expOf nan) nan
-    ∷ same (expOf nought) one
-    ∷ same (expOf (neg nought)) one
-    ∷ same (expOf infinite) infinite
-    ∷ same (expOf (neg infinite)) nought
+    ∷ same (expOf plusZero) one
+    ∷ same (expOf (neg plusZero)) one
+    ∷ same (expOf plusInfinity) plusInfinity
+    ∷ same (expOf (neg plusInfinity)) plusZero
     ∷ same (lnOf nan) nan
-    ∷ same (lnOf nought) (neg infinite)
-    ∷ same (lnOf (neg nought)) (neg infinite)
-    ∷ same (lnOf infinite) infinite
-    ∷ same (lnOf (neg infinite)) nan
-    ∷ same (lnOf one) nought
+    ∷ same (lnOf plusZero) (neg plusInfinity)
+    ∷ same (lnOf (neg plusZero)) (neg plusInfinity)
+    ∷ same (lnOf plusInfinity) plusInfinity
+    ∷ same (lnOf (neg plusInfinity)) nan
+    ∷ same (lnOf one) plusZero
     ∷ same (lnOf (neg one)) nan
     ∷ same (lnOnePlusOf nan) nan
-    ∷ same (lnOnePlusOf nought) nought
-    ∷ same (lnOnePlusOf (neg nought)) (neg nought)
-    ∷ same (lnOnePlusOf infinite) infinite
-    ∷ same (lnOnePlusOf (neg infinite)) nan
-    ∷ same (lnOnePlusOf (neg one)) (neg infinite)
+    ∷ same (lnOnePlusOf plusZero) plusZero
+    ∷ same (lnOnePlusOf (neg plusZero)) (neg plusZero)
+    ∷ same (lnOnePlusOf plusInfinity) plusInfinity
+    ∷ same (lnOnePlusOf (neg plusInfinity)) nan
+    ∷ same (lnOnePlusOf (neg one)) (neg plusInfinity)
     ∷ same (lnOnePlusOf (bits 0xc000_0000_0000_0000)) nan
     ∷ same (expMinusOneOf nan) nan
-    ∷ same (expMinusOneOf nought) nought
-    ∷ same (expMinusOneOf (neg nought)) (neg nought)
-    ∷ same (expMinusOneOf infinite) infinite
-    ∷ same (expMinusOneOf (neg infinite)) (neg one)
+    ∷ same (expMinusOneOf plusZero) plusZero
+    ∷ same (expMinusOneOf (neg plusZero)) (neg plusZero)
+    ∷ same (expMinusOneOf plusInfinity) plusInfinity
+    ∷ same (expMinusOneOf (neg plusInfinity)) (neg one)
     ∷ []
 
 -- all of it: the 94 levels, k from 20 to 60, and the named values

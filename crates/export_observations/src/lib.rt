@@ -4,7 +4,7 @@ ghost use mathlib.Core.Path.{_≡_};
 ghost use Prim.Native.Nat.{_+_, _≤_, _<_};
 ghost use lib.ListN.{length, getD};
 ghost use lib.Seq.{sets};
-ghost use Rattle.lent_bytes.specs.Buffer.{replied, written};
+ghost use Rattle.lent_bytes.specs.Buffer.{lengthWritten, written};
 ghost use Rattle.export_reports.specs.Bytes.{bytesOf};
 ghost use Rattle.export_observations.specs.Observations.{fourBytesEach, observationCounts, observationBytes};
 use base_builder::ConsensusBaseBuilder;
@@ -54,7 +54,7 @@ fn put_counts(out: &mut [u8], builder: ConsensusBaseBuilder)
 // 1,044 bytes and as reply their number; or 0, and nothing written, where the state is not 80 bytes or
 // the buffer is too short.
 pub fn observations(state: &[u8], out: &mut [u8]) -> u64
-    ensures reply { λ r. ⌜ r ≡ replied (observationBytes (now (state .entry))) (now (out .entry)) ⌝ }
+    ensures reply { λ r. ⌜ r ≡ lengthWritten (observationBytes (now (state .entry))) (now (out .entry)) ⌝ }
     ensures lent { λ _. ⌜ now (out .exit) ≡ written (observationBytes (now (state .entry))) (now (out .entry)) ⌝ }
 {
     if state.len() != 80 {

@@ -9,29 +9,29 @@ use lib.ListN.{length}
 use Rattle.rate_tables.specs.Adjusted.{adjustedTables}
 use Rattle.gap_tables.specs.Gaps.{gapTables}
 use Rattle.base_builder.specs.declared.builder.ConsensusBaseBuilder.{ConsensusBaseBuilder}
-use Rattle.lent_bytes.specs.Buffer.{replied, written}
+use Rattle.lent_bytes.specs.Buffer.{lengthWritten, written}
 use Rattle.export_scripts.specs.Script.{items, isScript}
 use Rattle.export_reports.specs.Runs.{reports, startOf, scriptBytes}
 
 module _ (bs out : List ℕ) where
-  pub fits-replied : length bs ≤ length out → length bs ≡ replied bs out
-  unfolding replied
+  pub fits-replied : length bs ≤ length out → length bs ≡ lengthWritten bs out
+  unfolding lengthWritten
   fits-replied h = rw (le-leb (length bs) (length out) h)
 
-  pub short-replied : length out < length bs → 0 ≡ replied bs out
-  unfolding replied
+  pub short-replied : length out < length bs → 0 ≡ lengthWritten bs out
+  unfolding lengthWritten
   short-replied h = rw (lt-leb (length bs) (length out) h)
 
 -- no bytes at all
-empty-replied : (out : List ℕ) → 0 ≡ replied [] out
-unfolding replied
+empty-replied : (out : List ℕ) → 0 ≡ lengthWritten [] out
+unfolding lengthWritten
 empty-replied out = rw (le-leb 0 (length out) (omega arith))
 
 empty-written : (out : List ℕ) → out ≡ written [] out
 unfolding written
 empty-written out = rw (le-leb 0 (length out) (omega arith))
 
-pub none-replied : (bs out : List ℕ) → bs ≡ [] → 0 ≡ replied bs out
+pub none-replied : (bs out : List ℕ) → bs ≡ [] → 0 ≡ lengthWritten bs out
 none-replied bs out e = rw e (empty-replied out)
 
 pub none-written : (bs out : List ℕ) → bs ≡ [] → out ≡ written bs out

@@ -9,7 +9,7 @@ use Rattle.gap_tables.specs.declared.gaps.UnanimousGapTables.{UnanimousGapTable
 use Rattle.rate_tables.specs.Adjusted.{adjustedTables}
 use Rattle.gap_tables.specs.Gaps.{gapTables}
 use Rattle.base_builder.specs.declared.builder.ConsensusBaseBuilder.{ConsensusBaseBuilder}
-use Rattle.base_builder.specs.Builder.{newAt, withRule}
+use Rattle.base_builder.specs.Builder.{newAt, withTieRule}
 use Rattle.export_scripts.specs.declared.script.Progress.{Progress}
 use Rattle.tie_rules.specs.Ties.{ruleOf}
 use Rattle.export_scripts.specs.Script.{Item, event, question, items, isScript, passed}
@@ -27,7 +27,7 @@ reports t g (i ∷ is) p = said g i p ++ reports t g is (passed t i p)
 
 -- a builder under the rule of a number, with nothing refused
 abbrev pub startOf : ℕ → ConsensusBaseBuilder → Progress
-startOf rule b = record { builder = withRule (ruleOf rule) b; refused = 0 }
+startOf rule b = record { builder = withTieRule (ruleOf rule) b; refused = 0 }
 
 -- what a script writes for a builder, with the tables of two rates and under a rule; nothing where rule or script is bad
 unfoldable pub scriptBytes : ℕ → ℕ → ℕ → List ℕ → ConsensusBaseBuilder → List ℕ

@@ -6,7 +6,7 @@ ghost use lib.Seq.{sets};
 ghost use Rattle.unanimous_shortcut.specs.Unanimous.{tablesOf};
 ghost use Rattle.rate_tables.specs.Adjusted.{adjustedOf, adjustedTables};
 ghost use Rattle.gap_tables.specs.Gaps.{gapTables};
-ghost use Rattle.lent_bytes.specs.Buffer.{replied, written};
+ghost use Rattle.lent_bytes.specs.Buffer.{lengthWritten, written};
 ghost use Rattle.export_scripts.specs.Script.{items};
 ghost use Rattle.export_reports.specs.Runs.{reports, scriptBytes, historyBytes};
 use crate::report::put_item;
@@ -97,7 +97,7 @@ pub(crate) fn run(
     script: &[u8],
     out: &mut [u8],
 ) -> u64
-    ensures reply { λ r. ⌜ r ≡ replied (scriptBytes (pre .0) (post .0) rule (now (script .entry)) builder) (now (out .entry)) ⌝ }
+    ensures reply { λ r. ⌜ r ≡ lengthWritten (scriptBytes (pre .0) (post .0) rule (now (script .entry)) builder) (now (out .entry)) ⌝ }
     ensures lent { λ _. ⌜ now (out .exit) ≡ written (scriptBytes (pre .0) (post .0) rule (now (script .entry)) builder) (now (out .entry)) ⌝ }
 {
     if 1 < rule {
@@ -128,7 +128,7 @@ pub fn history_by(
     script: &[u8],
     out: &mut [u8],
 ) -> u64
-    ensures reply { λ r. ⌜ r ≡ replied (historyBytes (pre .0) (post .0) rule (now (script .entry))) (now (out .entry)) ⌝ }
+    ensures reply { λ r. ⌜ r ≡ lengthWritten (historyBytes (pre .0) (post .0) rule (now (script .entry))) (now (out .entry)) ⌝ }
     ensures lent { λ _. ⌜ now (out .exit) ≡ written (historyBytes (pre .0) (post .0) rule (now (script .entry))) (now (out .entry)) ⌝ }
 {
     run(
@@ -144,7 +144,7 @@ pub fn history_by(
 
 // With the tables lent.
 pub fn history(pre: PhredScore, post: PhredScore, rule: u8, script: &[u8], out: &mut [u8]) -> u64
-    ensures reply { λ r. ⌜ r ≡ replied (historyBytes (pre .0) (post .0) rule (now (script .entry))) (now (out .entry)) ⌝ }
+    ensures reply { λ r. ⌜ r ≡ lengthWritten (historyBytes (pre .0) (post .0) rule (now (script .entry))) (now (out .entry)) ⌝ }
     ensures lent { λ _. ⌜ now (out .exit) ≡ written (historyBytes (pre .0) (post .0) rule (now (script .entry))) (now (out .entry)) ⌝ }
 {
     history_by(Way::LentTables, pre, post, rule, script, out)

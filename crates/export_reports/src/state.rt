@@ -4,7 +4,7 @@ ghost use Prim.Native.Nat.{_+_, _*_, _^_, _≤_, _<_};
 ghost use Rattle.float.specs.Ops.{bits};
 ghost use Rattle.tie_rules.specs.Lanes.{lanes};
 ghost use Rattle.words.specs.Lists.{byteAt};
-ghost use Rattle.lent_bytes.specs.Buffer.{replied, written};
+ghost use Rattle.lent_bytes.specs.Buffer.{lengthWritten, written};
 ghost use Rattle.export_reports.specs.State.{numberAt, builderOf, builderScriptBytes};
 use crate::runs::run;
 use base_builder::ConsensusBaseBuilder;
@@ -84,7 +84,7 @@ pub fn from_state(
     script: &[u8],
     out: &mut [u8],
 ) -> u64
-    ensures reply { λ r. ⌜ r ≡ replied (builderScriptBytes (pre .0) (post .0) rule (now (state .entry)) (now (script .entry))) (now (out .entry)) ⌝ }
+    ensures reply { λ r. ⌜ r ≡ lengthWritten (builderScriptBytes (pre .0) (post .0) rule (now (state .entry)) (now (script .entry))) (now (out .entry)) ⌝ }
     ensures lent { λ _. ⌜ now (out .exit) ≡ written (builderScriptBytes (pre .0) (post .0) rule (now (state .entry)) (now (script .entry))) (now (out .entry)) ⌝ }
 {
     if state.len() != 80 {

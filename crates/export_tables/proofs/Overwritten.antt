@@ -12,7 +12,7 @@ use lib.ListN.{length, getD, set, drop, length-append, length-drop, length-set, 
 use lib.Seq.{getD-set-same, getD-set-other, getD-append-add, getD-drop, ext-getD}
 use Rattle.words.specs.Lists.{listed}
 use Rattle.words.proofs.Listed.{listed-length, level-at}
-use Rattle.lent_bytes.specs.Buffer.{replied, written}
+use Rattle.lent_bytes.specs.Buffer.{lengthWritten, written}
 use Rattle.export_tables.specs.Tables.{overwritten}
 
 module _ (f : ℕ → ℕ) (n : ℕ) (out : List ℕ) where
@@ -62,10 +62,10 @@ over-more f k out v h e =
 
 -- all of them, as bytes that fit; and bytes that do not
 module _ (f : ℕ → ℕ) (n : ℕ) (out : List ℕ) where
-  pub over-written : n ≤ length out → (n ≡ replied (listed f 0 n) out) × (overwritten f n out ≡ written (listed f 0 n) out)
-  unfolding overwritten replied written
+  pub over-written : n ≤ length out → (n ≡ lengthWritten (listed f 0 n) out) × (overwritten f n out ≡ written (listed f 0 n) out)
+  unfolding overwritten lengthWritten written
   over-written h = rw (listed-length f 0 n, le-leb n (length out) h) (refl, refl)
 
-  pub over-short : length out < n → (0 ≡ replied (listed f 0 n) out) × (out ≡ written (listed f 0 n) out)
-  unfolding replied written
+  pub over-short : length out < n → (0 ≡ lengthWritten (listed f 0 n) out) × (out ≡ written (listed f 0 n) out)
+  unfolding lengthWritten written
   over-short h = rw (listed-length f 0 n, lt-leb n (length out) h) (refl, refl)

@@ -2,7 +2,7 @@
 ghost use mathlib.Core.Path.{_≡_};
 ghost use Prim.Native.Nat.{_≤_, _<_};
 ghost use lib.ListN.{length};
-ghost use Rattle.lent_bytes.specs.Buffer.{replied, written};
+ghost use Rattle.lent_bytes.specs.Buffer.{lengthWritten, written};
 ghost use Rattle.export_tables.specs.Tables.{numberAt, byteOf, numberByte, tableBytes, overwritten};
 use float::pattern;
 use phred::PhredScore;
@@ -11,7 +11,7 @@ use rate_tables::AdjustedProbabilityTables;
 // correct, error_per_alt, thresholds and cerr_min as 94 bit patterns each, then the cap: numbers of 8
 // bytes, low byte first. A buffer of less than 3,016 bytes is left as it is, and the answer is 0.
 pub fn tables(pre: PhredScore, post: PhredScore, out: &mut [u8]) -> u64
-    ensures reply { λ r. ⌜ r ≡ replied (tableBytes (pre .0) (post .0)) (now (out .entry)) ⌝ }
+    ensures reply { λ r. ⌜ r ≡ lengthWritten (tableBytes (pre .0) (post .0)) (now (out .entry)) ⌝ }
     ensures lent { λ _. ⌜ now (out .exit) ≡ written (tableBytes (pre .0) (post .0)) (now (out .entry)) ⌝ }
 {
     if out.len() < 3016 {

@@ -10,7 +10,7 @@ use Rattle.rate_tables.specs.Adjusted.{adjustedTables}
 use Rattle.gap_tables.specs.Gaps.{gapTables}
 use Rattle.lane_calls.specs.declared.call.Call.{Call}
 use Rattle.base_builder.specs.declared.builder.ConsensusBaseBuilder.{ConsensusBaseBuilder}
-use Rattle.base_builder.specs.Builder.{newAt, withRule}
+use Rattle.base_builder.specs.Builder.{newAt, withTieRule}
 use Rattle.base_builder.specs.Calls.{callFullOf, callOf}
 use Rattle.base_builder.specs.History.{step}
 use Rattle.tie_rules.specs.Ties.{ruleOf}
@@ -40,5 +40,5 @@ amounts t g (i ∷ is) b = amountAt g i b + amounts t g is (stepped t i b)
 -- so many runs of a script, each from a new builder, in 64 bits; 0 where rule or script is bad
 unfoldable pub timesOf : ℕ → ℕ → ℕ → List ℕ → ℕ → ℕ
 timesOf pre post rule script times =
-    if leb rule 1 && isScript 4 script then times * amounts (adjustedTables post) (gapTables pre) (items script) (withRule (ruleOf rule) (newAt pre)) % 2 ^ 64
+    if leb rule 1 && isScript 4 script then times * amounts (adjustedTables post) (gapTables pre) (items script) (withTieRule (ruleOf rule) (newAt pre)) % 2 ^ 64
     else 0

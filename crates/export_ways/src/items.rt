@@ -1,7 +1,7 @@
 // An item of a script, by each way.
 ghost use mathlib.Core.Path.{_≡_};
 ghost use Rattle.rate_tables.specs.Adjusted.{adjustedOf};
-ghost use Rattle.base_builder.specs.Builder.{withRule, resetOf, added, answerOf};
+ghost use Rattle.base_builder.specs.Builder.{withTieRule, resetOf, added, answerOf};
 ghost use Rattle.export_scripts.specs.Script.{itemOf, passed};
 use base_builder::Addition;
 use base_builder::ConsensusBaseBuilder;
@@ -48,7 +48,7 @@ fn reset(lent: bool, builder: ConsensusBaseBuilder) -> ConsensusBaseBuilder
 }
 
 fn set_tie_rule(lent: bool, builder: ConsensusBaseBuilder, rule: TieRule) -> ConsensusBaseBuilder
-    ensures { λ r. ⌜ r ≡ withRule rule builder ⌝ }
+    ensures { λ r. ⌜ r ≡ withTieRule rule builder ⌝ }
 {
     if lent {
         return lent_builder::set_tie_rule_in_place(builder, rule);

@@ -1,6 +1,6 @@
 // A column file: its listing, or how long its calls take.
 ghost use mathlib.Core.Path.{_≡_};
-ghost use Rattle.lent_bytes.specs.Buffer.{replied, written};
+ghost use Rattle.lent_bytes.specs.Buffer.{lengthWritten, written};
 ghost use Rattle.column_calls.specs.Times.{callsOf};
 ghost use Rattle.column_listing.specs.Listing.{listingOf};
 ghost use Rattle.column_listing.specs.Answers.{listedIn, listingBuffer};
@@ -9,7 +9,7 @@ ghost use Rattle.export_listing.specs.Reply.{listingReply};
 // The text that the program prints, and its length; 0 where the buffer is too short.
 #[no_mangle]
 pub extern "C" fn consensus_list(file: &[u8], out: &mut [u8]) -> u64
-    ensures reply { λ r. ⌜ r ≡ replied (listingOf (now (file .entry))) (now (out .entry)) ⌝ }
+    ensures reply { λ r. ⌜ r ≡ lengthWritten (listingOf (now (file .entry))) (now (out .entry)) ⌝ }
     ensures lent { λ _. ⌜ now (out .exit) ≡ written (listingOf (now (file .entry))) (now (out .entry)) ⌝ }
 {
     column_listing::print(file, out) as u64

@@ -1,7 +1,7 @@
 // A script of a builder's calls: the reports that it asks for, or how long it takes; and what a builder
 // has counted.
 ghost use mathlib.Core.Path.{_≡_};
-ghost use Rattle.lent_bytes.specs.Buffer.{replied, written};
+ghost use Rattle.lent_bytes.specs.Buffer.{lengthWritten, written};
 ghost use Rattle.export_reports.specs.Runs.{historyBytes};
 ghost use Rattle.export_reports.specs.State.{builderScriptBytes};
 ghost use Rattle.export_timing.specs.Times.{timesOf};
@@ -18,7 +18,7 @@ pub extern "C" fn consensus_history(
     script: &[u8],
     out: &mut [u8],
 ) -> u64
-    ensures reply { λ r. ⌜ r ≡ replied (historyBytes pre post rule (now (script .entry))) (now (out .entry)) ⌝ }
+    ensures reply { λ r. ⌜ r ≡ lengthWritten (historyBytes pre post rule (now (script .entry))) (now (out .entry)) ⌝ }
     ensures lent { λ _. ⌜ now (out .exit) ≡ written (historyBytes pre post rule (now (script .entry))) (now (out .entry)) ⌝ }
 {
     export_reports::history(PhredScore(pre), PhredScore(post), rule, script, out)
@@ -33,7 +33,7 @@ pub extern "C" fn consensus_history_by_value(
     script: &[u8],
     out: &mut [u8],
 ) -> u64
-    ensures reply { λ r. ⌜ r ≡ replied (historyBytes pre post rule (now (script .entry))) (now (out .entry)) ⌝ }
+    ensures reply { λ r. ⌜ r ≡ lengthWritten (historyBytes pre post rule (now (script .entry))) (now (out .entry)) ⌝ }
     ensures lent { λ _. ⌜ now (out .exit) ≡ written (historyBytes pre post rule (now (script .entry))) (now (out .entry)) ⌝ }
 {
     let way = Way::ByValue;
@@ -49,7 +49,7 @@ pub extern "C" fn consensus_history_lent(
     script: &[u8],
     out: &mut [u8],
 ) -> u64
-    ensures reply { λ r. ⌜ r ≡ replied (historyBytes pre post rule (now (script .entry))) (now (out .entry)) ⌝ }
+    ensures reply { λ r. ⌜ r ≡ lengthWritten (historyBytes pre post rule (now (script .entry))) (now (out .entry)) ⌝ }
     ensures lent { λ _. ⌜ now (out .exit) ≡ written (historyBytes pre post rule (now (script .entry))) (now (out .entry)) ⌝ }
 {
     let way = Way::LentBuilder;
@@ -66,7 +66,7 @@ pub extern "C" fn consensus_builder(
     script: &[u8],
     out: &mut [u8],
 ) -> u64
-    ensures reply { λ r. ⌜ r ≡ replied (builderScriptBytes pre post rule (now (state .entry)) (now (script .entry))) (now (out .entry)) ⌝ }
+    ensures reply { λ r. ⌜ r ≡ lengthWritten (builderScriptBytes pre post rule (now (state .entry)) (now (script .entry))) (now (out .entry)) ⌝ }
     ensures lent { λ _. ⌜ now (out .exit) ≡ written (builderScriptBytes pre post rule (now (state .entry)) (now (script .entry))) (now (out .entry)) ⌝ }
 {
     export_reports::from_state(PhredScore(pre), PhredScore(post), rule, state, script, out)
@@ -89,7 +89,7 @@ pub extern "C" fn consensus_history_times(
 // The counts of a builder of 80 given bytes, by the functions that say them.
 #[no_mangle]
 pub extern "C" fn consensus_observations(state: &[u8], out: &mut [u8]) -> u64
-    ensures reply { λ r. ⌜ r ≡ replied (observationBytes (now (state .entry))) (now (out .entry)) ⌝ }
+    ensures reply { λ r. ⌜ r ≡ lengthWritten (observationBytes (now (state .entry))) (now (out .entry)) ⌝ }
     ensures lent { λ _. ⌜ now (out .exit) ≡ written (observationBytes (now (state .entry))) (now (out .entry)) ⌝ }
 {
     export_observations::observations(state, out)

@@ -7,38 +7,38 @@ use lib.Ieee.{nan, neg, div, lt, isNan, ofBits, toBits}
 use lib.Ieee.Scale.{finite}
 use Rattle.float.specs.Claims.{same}
 use Rattle.words.specs.Claims.{all}
-use Rattle.float.specs.Ops.{bits, nought, one, infinite}
+use Rattle.float.specs.Ops.{bits, plusZero, one, plusInfinity}
 use Rattle.float.specs.Methods.{absOf, maxOf, betweenOf, floorOf}
 
 -- of abs, max, between, floor_to_u64 and is_finite, in turn
 abbrev examples : List Bool
 examples =
-    same (absOf (neg nought)) nought
+    same (absOf (neg plusZero)) plusZero
     ∷ same (absOf nan) nan
-    ∷ same (absOf (neg infinite)) infinite
+    ∷ same (absOf (neg plusInfinity)) plusInfinity
     ∷ same (absOf (neg one)) one
     ∷ same (maxOf nan one) one
     ∷ same (maxOf one nan) one
     ∷ same (maxOf nan nan) nan
-    ∷ same (maxOf one nought) one
-    ∷ same (maxOf nought one) one
-    ∷ same (maxOf nought (neg nought)) nought
-    ∷ same (maxOf (neg nought) nought) (neg nought)
-    ∷ betweenOf (neg one) nought one
-    ∷ not (betweenOf nought nought one)
-    ∷ not (betweenOf nought one one)
-    ∷ not (betweenOf nought nan one)
+    ∷ same (maxOf one plusZero) one
+    ∷ same (maxOf plusZero one) one
+    ∷ same (maxOf plusZero (neg plusZero)) plusZero
+    ∷ same (maxOf (neg plusZero) plusZero) (neg plusZero)
+    ∷ betweenOf (neg one) plusZero one
+    ∷ not (betweenOf plusZero plusZero one)
+    ∷ not (betweenOf plusZero one one)
+    ∷ not (betweenOf plusZero nan one)
     ∷ eqb (floorOf (bits 0x4007_fdf3_b645_a1cb)) 2  -- 2.999
     ∷ eqb (floorOf (bits 0xbfe0_0000_0000_0000)) 0  -- -0.5
     ∷ eqb (floorOf nan) 0
-    ∷ eqb (floorOf infinite) (2 ^ 64 - 1)
-    ∷ eqb (floorOf (neg infinite)) 0
+    ∷ eqb (floorOf plusInfinity) (2 ^ 64 - 1)
+    ∷ eqb (floorOf (neg plusInfinity)) 0
     ∷ eqb (floorOf (bits 0x43f0_0000_0000_0000)) (2 ^ 64 - 1)  -- 2 ^ 64
     ∷ eqb (floorOf (bits 0x43ef_ffff_ffff_ffff)) 18446744073709549568  -- the largest below it
     ∷ not (finite nan)
-    ∷ not (finite infinite)
-    ∷ not (finite (neg infinite))
-    ∷ finite nought
+    ∷ not (finite plusInfinity)
+    ∷ not (finite (neg plusInfinity))
+    ∷ finite plusZero
     ∷ finite (neg one)
     ∷ []
 

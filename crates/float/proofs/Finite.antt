@@ -9,7 +9,7 @@ use lib.Ieee.{Float, nan, inf, fin, binary64, up, down, round, sub, eq, ofBits}
 use lib.Ieee.Fits.{down-pos}
 use lib.Ieee.Scale.{round-same, finite}
 use borrow.Author.Tests.{le-ltb}
-use Rattle.float.specs.Ops.{_⊖_, nought}
+use Rattle.float.specs.Ops.{_⊖_, plusZero}
 
 -- 0 / c is rounded to the zero of its sign
 pub round-zero : (s : Bool) (c : ℕ) → 0 < c → round binary64 s 0 c ≡ fin s 0 (pos 0)
@@ -17,7 +17,7 @@ unfolding round
 round-zero s c C = round-same binary64 s 0 c 0 1 C (pow-pos 0) (sym (zero-mul c))
 
 -- the test of `is_finite`
-pub less-itself : (x : Float) → eq (x ⊖ x) nought ≡ finite x
+pub less-itself : (x : Float) → eq (x ⊖ x) plusZero ≡ finite x
 unfolding eq sub ofBits
 less-itself nan = refl
 less-itself (inf true) = refl

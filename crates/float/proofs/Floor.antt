@@ -10,7 +10,7 @@ use lib.Ieee.Fits.{down-pos}
 use lib.Ieee.Scale.{finite}
 use lib.Ieee.Positive.{num, den}
 use borrow.Author.Tests.{ltb-false}
-use Rattle.float.specs.Ops.{bits, nought}
+use Rattle.float.specs.Ops.{bits, plusZero}
 use Rattle.float.specs.Methods.{floorOf}
 
 -- a cast with the fraction dropped and held to the range
@@ -23,7 +23,7 @@ floor-unsigned (fin true m e) = refl
 floor-unsigned (fin false m e) = refl
 
 -- the largest whole number n that is not above x, as n ≤ num x / den x < n + 1: for x from 0 up to 2 ^ 64
-pub floor-is : (x : Float) → T (finite x) → lt x nought ≡ false → num x < 2 ^ 64 * den x → (floorOf x * den x ≤ num x) × (num x < (floorOf x + 1) * den x)
+pub floor-is : (x : Float) → T (finite x) → lt x plusZero ≡ false → num x < 2 ^ 64 * den x → (floorOf x * den x ≤ num x) × (num x < (floorOf x + 1) * den x)
 unfolding floorOf lt ofBits
 floor-is nan f h k = absurd f
 floor-is (inf s) f h k = absurd f
@@ -35,7 +35,7 @@ floor-is (fin false m e) f h k =
     rw z (le-div-iff-mul-le d .0 (le-refl _), div-lt-iff-lt-mul d .0 (omega arith))
 
 -- 0 for NaN and for what is not above 0
-pub floor-least : (x : Float) → lt nought x ≡ false → 0 ≡ floorOf x
+pub floor-least : (x : Float) → lt plusZero x ≡ false → 0 ≡ floorOf x
 unfolding floorOf lt ofBits
 floor-least nan h = refl
 floor-least (inf true) h = refl
@@ -46,7 +46,7 @@ floor-least (fin false m e) h =
     rw (z, zero-div)
 
 -- the largest u64 for what is above 0 and not below 2 ^ 64
-pub floor-most : (x : Float) → lt nought x ≡ true → lt x (bits 0x43f0_0000_0000_0000) ≡ false → 2 ^ 64 - 1 ≡ floorOf x
+pub floor-most : (x : Float) → lt plusZero x ≡ true → lt x (bits 0x43f0_0000_0000_0000) ≡ false → 2 ^ 64 - 1 ≡ floorOf x
 unfolding floorOf lt ofBits
 floor-most nan a h = absurd (false≢true a)
 floor-most (inf true) a h = absurd (false≢true a)

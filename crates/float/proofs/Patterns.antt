@@ -9,7 +9,7 @@ use lib.Ieee.{Float, nan, inf, fin, neg, fits, ne, isNan, nanBits, binary64, one
 use lib.Ieee.Fits.{neg-fits}
 use lib.Ieee.Bits.{nanBits-is, nanBits-above, toBits-lt, ofBits-toBits}
 use borrow.Author.Tests.{lt-ltb, le-ltb}
-use Rattle.float.specs.Ops.{_⊘_, bits, nought}
+use Rattle.float.specs.Ops.{_⊘_, bits, plusZero}
 use Rattle.float.specs.Methods.{absOf}
 use Rattle.float.proofs.Order.{ne-self, nan-alone}
 
@@ -22,7 +22,7 @@ pub no-nan : (n : ℕ) → n < 2047 * 2 ^ 52 → T (not (nanBits binary64 n))
 no-nan n h = rw (nanBits-above, le-ltb (ones binary64 * hid binary64) (n % top binary64) (omega arith)) tt
 
 -- a pattern above it, the sign's bit aside, is a NaN's
-pub nan-pattern : (n : ℕ) → 0x7ff0_0000_0000_0000 < n % 0x8000_0000_0000_0000 → nought ⊘ nought ≡ bits n
+pub nan-pattern : (n : ℕ) → 0x7ff0_0000_0000_0000 < n % 0x8000_0000_0000_0000 → plusZero ⊘ plusZero ≡ bits n
 unfolding div ofBits
 nan-pattern n h = sym (nan-alone (bits n) (ne-self (bits n) ∙ sym (nanBits-is binary64 n) ∙ nanBits-above binary64 n ∙ lt-ltb _ _ h))
 

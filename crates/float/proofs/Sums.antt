@@ -17,7 +17,7 @@ use lib.Ieee.Nearest.{div-same}
 use lib.Ieee.Order.{round-mono}
 use lib.Ieee.Scale.{round-same, finite}
 use borrow.Author.Tests.{ltb-false, le-ltb, eqb-true}
-use Rattle.float.specs.Ops.{_⊕_, _⊖_, nought, infinite}
+use Rattle.float.specs.Ops.{_⊕_, _⊖_, plusZero, plusInfinity}
 use Rattle.words.proofs.Cases.{both}
 use Rattle.float.proofs.Finite.{round-zero}
 use Rattle.float.proofs.Order.{none-below, le-not-lt, lt-neg, round-has}
@@ -120,7 +120,7 @@ sum-not-below a b c C false true z = rw (le-ltb a b (omega (arith, z tt))) (grow
 sum-not-below a b c C false false z = grows a (a + b) c C (le-add-right a b)
 
 -- of an f64 and what is not below 0: it is not below the first, and may be NaN
-pub add-not-below : (x z : Float) → T (fits binary64 x) → lt z nought ≡ false → lt (x ⊕ z) x ≡ false
+pub add-not-below : (x z : Float) → T (fits binary64 x) → lt z plusZero ≡ false → lt (x ⊕ z) x ≡ false
 unfolding lt add ofBits
 add-not-below nan z f h = refl
 add-not-below (inf true) z f h = none-below (inf true ⊕ z)
@@ -148,7 +148,7 @@ lowest (inf false) x p h = refl
 lowest (fin s m e) x p h = refl
 
 -- of an f64 other than -infinity and what is not below 0: it is not -infinity
-pub add-not-minus-infinity : (x z : Float) → T (fits binary64 x) → eq x (neg infinite) ≡ false → lt z nought ≡ false → eq (x ⊕ z) (neg infinite) ≡ false
+pub add-not-minus-infinity : (x z : Float) → T (fits binary64 x) → eq x (neg plusInfinity) ≡ false → lt z plusZero ≡ false → eq (x ⊕ z) (neg plusInfinity) ≡ false
 unfolding eq lt neg add div ofBits
 add-not-minus-infinity nan z f g h = refl
 add-not-minus-infinity (inf true) z f g h = absurd (true≢false g)
@@ -158,7 +158,7 @@ add-not-minus-infinity (fin s m e) z f g h = lowest (fin s m e ⊕ z) (fin s m e
 -- ---- the difference of equals
 -- +0 or -0
 abbrev Zero : Float → Type 0
-Zero x = (x ≡ nought) ⊎ (x ≡ neg nought)
+Zero x = (x ≡ plusZero) ⊎ (x ≡ neg plusZero)
 
 -- ±a / c less itself, and a zero less the other zero
 zero-sum : (s t : Bool) (a c : ℕ) → 0 < c → (Bool·beq s t || eqb a 0) ≡ true → Zero (sum binary64 t a (not s) a c)
@@ -169,7 +169,7 @@ zero-sum false true a c C k = inr (rw (eqb-true a 0 k) (round-zero true c C))
 zero-sum false false a c C k = inl (rw (le-ltb a a (le-refl a), sub-self) (round-zero false c C))
 
 -- it is a zero
-pub equal-difference : (a b : Float) → T (finite a) → eq a b ≡ true → (b ⊖ a ≡ nought) ⊎ (b ⊖ a ≡ neg nought)
+pub equal-difference : (a b : Float) → T (finite a) → eq a b ≡ true → (b ⊖ a ≡ plusZero) ⊎ (b ⊖ a ≡ neg plusZero)
 unfolding eq sub
 equal-difference nan b f h = absurd f
 equal-difference (inf s) b f h = absurd f

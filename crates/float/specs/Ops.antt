@@ -31,13 +31,13 @@ abbrev pub whole : ℕ → Float
 whole n = ofInt binary64 (pos n)
 
 -- 0
-abbrev pub nought : Float
-nought = bits 0
+abbrev pub plusZero : Float
+plusZero = bits 0
 
 -- 1
 abbrev pub one : Float
 one = bits 0x3ff0_0000_0000_0000
 
 -- +infinity, as 1 / 0 gives it
-abbrev pub infinite : Float
-infinite = one ⊘ nought
+abbrev pub plusInfinity : Float
+plusInfinity = one ⊘ plusZero

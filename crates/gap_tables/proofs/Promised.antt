@@ -13,7 +13,7 @@ use lib.Ieee.Back.{whole-unique}
 use lib.Ieee.Bits.{is-true, is-false}
 use lib.Ieee.Scale.{finite}
 use borrow.Author.Tests.{leb-true, le-leb, le-ltb}
-use Rattle.float.specs.Ops.{infinite}
+use Rattle.float.specs.Ops.{plusInfinity}
 use Rattle.words.proofs.Cases.{clash, choice}
 use Rattle.float.proofs.Order.{le-self, le-le, not-lt-le}
 use Rattle.gap_tables.specs.declared.thresholds.Ends.{Ends}
@@ -39,7 +39,7 @@ unfolding eq ofBits fits
 plus-is-0 (plus m e f) h =
     whole-unique binary64 (fin false m e) gap0 false 0 f tt (refl, eqb→eq (m * up e * 1) (0 * down e) (and-l (eqb (m * up e * 1) (0 * down e)) true h)) (refl, refl)
 
-plus-to-infinity : {x : Float} → Plus x → le x infinite ≡ true
+plus-to-infinity : {x : Float} → Plus x → le x plusInfinity ≡ true
 unfolding le div ofBits
 plus-to-infinity (plus m e f) = refl
 
@@ -128,7 +128,7 @@ module _ (quality : Float → ℕ) where
 
   -- what holds of 0, of that end and of infinity, each in its case, holds of the threshold
   cases : (P : Float → Type 0) (q : ℕ) → (reaches quality q gap0 ≡ true → P gap0) → (reaches quality q gap0 ≡ false → reaches quality q gap256 ≡ true → P (upper q))
-      → (reaches quality q gap0 ≡ false → reaches quality q gap256 ≡ false → P infinite) → P (threshold quality q)
+      → (reaches quality q gap0 ≡ false → reaches quality q gap256 ≡ false → P plusInfinity) → P (threshold quality q)
   unfolding thresholdWith
   cases P q h k l = choice P (reaches quality q gap0) _ _ h (λ a. choice P (reaches quality q gap256) _ _ (k a) (l a))
 
@@ -143,7 +143,7 @@ module _ (quality : Float → ℕ) where
       cases (λ x. le x (threshold quality r) ≡ true) q
       (λ a. cases (λ y. le gap0 y ≡ true) r (λ c. refl) (λ c d. plus-from-0 (upper-plus r)) (λ c d. refl))
       (λ a b. cases (λ y. le (upper q) y ≡ true) r (λ c. clash a (low gap0 c)) (λ c d. halvings-rise (reaches quality q) (reaches quality r) low 64) (λ c d. plus-to-infinity (upper-plus q)))
-      (λ a b. cases (λ y. le infinite y ≡ true) r (λ c. clash a (low gap0 c)) (λ c d. clash b (low gap256 d)) (λ c d. refl))
+      (λ a b. cases (λ y. le plusInfinity y ≡ true) r (λ c. clash a (low gap0 c)) (λ c d. clash b (low gap256 d)) (λ c d. refl))
 
 pub thresholds-promised : (quality : Float → ℕ) → Thresholds quality
 unfolding eq div ofBits
@@ -156,11 +156,11 @@ thresholds-promised quality = record {
       (λ a b. (λ e. clash a (rw (plus-is-0 (upper-plus quality q) e) at (halvings-pass (reaches quality q) b 64)), λ t. clash a (is-true _ t)))
       (λ a b. (absurd, λ t. clash a (is-true _ t)));
   is-infinite = λ q.
-      cases quality (λ x. (x ≡ infinite) ↔ (T (not (reaches quality q gap0)) × T (not (reaches quality q gap256)))) q
+      cases quality (λ x. (x ≡ plusInfinity) ↔ (T (not (reaches quality q gap0)) × T (not (reaches quality q gap256)))) q
       (λ a. (λ e. clash (ap finite e) refl, λ t. clash (is-false _ (t .0)) a))
       (λ a b. (λ e. clash (ap finite e) (plus-finite (upper-plus quality q)), λ t. clash (is-false _ (t .1)) b))
       (λ a b. (λ e. (rw a tt, rw b tt), λ t. refl));
   else-finite = λ q.
-      cases quality (λ x. T (not (finite x)) → x ≡ infinite) q
+      cases quality (λ x. T (not (finite x)) → x ≡ plusInfinity) q
       (λ a f. absurd f) (λ a b f. clash (is-false _ f) (plus-finite (upper-plus quality q))) (λ a b f. refl);
 }

@@ -4,7 +4,7 @@ use mathlib.Core.List.{List, [], _∷_}
 use lib.Dec.{ltb}
 use lib.ListN.{getD}
 use lib.Ieee.{Float, nan, neg}
-use Rattle.float.specs.Ops.{_⊕_, _⊗_, _⊘_, bits, nought, one}
+use Rattle.float.specs.Ops.{_⊕_, _⊗_, _⊘_, bits, plusZero, one}
 use Rattle.words.specs.Choice.{if_then_else_}
 use Rattle.elementary.specs.Exp.{expOf}
 use Rattle.phred.specs.Phred.{phredToLnErrorProb, lnProbToPhred, lnErrorProbTwoTrials, lnSumExpArray, lnNormalize, lnNot}
@@ -15,8 +15,8 @@ use Rattle.gap_tables.specs.Thresholds.{threshold}
 -- the gap formula: the quality where one lane leads three equal ones by the gap, at the pre-UMI logarithm. The four are 0 and three times -gap.
 unfoldable pub unanimousQualityFromGap : Float → Float → ℕ
 unanimousQualityFromGap pre gap =
-    let lnSum = lnSumExpArray (nought ∷ neg gap ∷ neg gap ∷ neg gap ∷ []) in
-    let lnConsensusError = lnNot (lnNormalize nought lnSum) in
+    let lnSum = lnSumExpArray (plusZero ∷ neg gap ∷ neg gap ∷ neg gap ∷ []) in
+    let lnConsensusError = lnNot (lnNormalize plusZero lnSum) in
     lnProbToPhred (lnErrorProbTwoTrials pre lnConsensusError)
 
 -- the threshold of a level at a pre-UMI rate
@@ -37,7 +37,7 @@ capOf pre = lnProbToPhred (phredToLnErrorProb pre)
 unfoldable pub cerrFrom : List Float → ℕ → ℕ → Float
 cerrFrom thresholds cap q =
     if ltb q cap then consensusError (getD thresholds (q + 1) nan)
-    else nought
+    else plusZero
 
 -- the tables of a pre-UMI rate
 unfoldable pub gapTables : ℕ → UnanimousGapTables

@@ -7,12 +7,12 @@ use lib.Dec.{T, leb}
 use lib.Ieee.{Float, le, eq}
 use lib.Ieee.Scale.{finite}
 use Rattle.gap_tables.specs.declared.thresholds.Ends.{Ends}
-use Rattle.float.specs.Ops.{_⊕_, _⊗_, bits, nought, infinite}
+use Rattle.float.specs.Ops.{_⊕_, _⊗_, bits, plusZero, plusInfinity}
 use Rattle.words.specs.Choice.{if_then_else_}
 
 -- the narrowest gap and the widest
 abbrev pub gap0 : Float
-gap0 = nought
+gap0 = plusZero
 
 abbrev pub gap256 : Float
 gap256 = bits 0x4070_0000_0000_0000
@@ -42,7 +42,7 @@ unfoldable pub thresholdWith : (Float → ℕ) → ℕ → ℕ → ℕ → Float
 thresholdWith quality least most level =
     if leb level least then gap0
     else if leb level most then halvings (reaches quality level) 64 .high
-    else infinite
+    else plusInfinity
 
 -- the threshold of a level
 abbrev pub threshold : (Float → ℕ) → ℕ → Float
@@ -57,6 +57,6 @@ pub record Thresholds (quality : Float → ℕ) : Type 0 where
   -- one is 0 exactly when gap 0 reaches its level
   pub is-0 : (q : ℕ) → T (eq (threshold quality q) gap0) ↔ T (reaches quality q gap0)
   -- and infinite exactly when neither gap 0 nor gap 256 does
-  pub is-infinite : (q : ℕ) → (threshold quality q ≡ infinite) ↔ (T (not (reaches quality q gap0)) × T (not (reaches quality q gap256)))
+  pub is-infinite : (q : ℕ) → (threshold quality q ≡ plusInfinity) ↔ (T (not (reaches quality q gap0)) × T (not (reaches quality q gap256)))
   -- and there is no other that is not finite
-  pub else-finite : (q : ℕ) → T (not (finite (threshold quality q))) → threshold quality q ≡ infinite
+  pub else-finite : (q : ℕ) → T (not (finite (threshold quality q))) → threshold quality q ≡ plusInfinity

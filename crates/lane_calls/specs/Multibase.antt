@@ -5,7 +5,7 @@ use mathlib.Core.List.{List}
 use lib.Dec.{ltb, eqb}
 use lib.Ieee.{Float}
 use lib.Ieee.Scale.{finite}
-use Rattle.float.specs.Ops.{_⊕_, _⊖_, _⊗_, _⊘_, bits, nought}
+use Rattle.float.specs.Ops.{_⊕_, _⊖_, _⊗_, _⊘_, bits, plusZero}
 use Rattle.words.specs.Choice.{if_then_else_}
 use Rattle.float.specs.Methods.{absOf, maxOf}
 use Rattle.elementary.specs.Exp.{expOf}
@@ -21,7 +21,7 @@ use Rattle.lane_calls.specs.Calls.{called, headroom}
 
 -- r, the sum of exp(lane - m) over the first n lanes but i, from lane to lane
 unfoldable pub restBelow : List Float → ℕ → Float → ℕ → Float
-restBelow xs i m zero = nought
+restBelow xs i m zero = plusZero
 restBelow xs i m (suc n) =
     if eqb n i then restBelow xs i m n
     else restBelow xs i m n ⊕ expOf (lane xs n ⊖ m)

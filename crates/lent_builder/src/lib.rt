@@ -1,7 +1,7 @@
 // The builder lent by &mut: three thin functions over the by-value ones of base_builder. Above each
 // stands one that takes and gives the builder by value, so that its callers need no proof by hand.
 ghost use mathlib.Core.Path.{_≡_};
-ghost use Rattle.base_builder.specs.Builder.{withRule, resetOf, added, answerOf, numberOf, refusalOf};
+ghost use Rattle.base_builder.specs.Builder.{withTieRule, resetOf, added, answerOf, numberOf, refusalOf};
 use base_builder::Addition;
 use base_builder::Answer;
 use base_builder::ConsensusBaseBuilder;
@@ -34,7 +34,7 @@ pub fn reset(builder: &mut ConsensusBaseBuilder)
 
 // The builder under another rule.
 pub fn set_tie_rule(builder: &mut ConsensusBaseBuilder, rule: TieRule)
-    ensures { λ _. ⌜ now (builder .exit) ≡ withRule rule (now (builder .entry)) ⌝ }
+    ensures { λ _. ⌜ now (builder .exit) ≡ withTieRule rule (now (builder .entry)) ⌝ }
 {
     *builder = (*builder).set_tie_rule(rule);
 }
@@ -69,7 +69,7 @@ pub fn reset_in_place(builder: ConsensusBaseBuilder) -> ConsensusBaseBuilder
 
 // `set_tie_rule`, lent a local.
 pub fn set_tie_rule_in_place(builder: ConsensusBaseBuilder, rule: TieRule) -> ConsensusBaseBuilder
-    ensures { λ r. ⌜ r ≡ withRule rule builder ⌝ }
+    ensures { λ r. ⌜ r ≡ withTieRule rule builder ⌝ }
 {
     let mut lent = builder;
     set_tie_rule(&mut lent, rule);

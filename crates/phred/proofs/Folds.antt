@@ -10,7 +10,7 @@ use lib.ListN.{length, getD, take, drop, length-drop, drop-of-length-le}
 use lib.Seq.{take-all, drop-cons}
 use lib.Ieee.{Float, nan, eq, ne}
 use Rattle.phred.specs.declared.Lowest.{Lowest}
-use Rattle.phred.specs.Phred.{lnZero, allLnZero, lowerOf, lowestFrom, lnSumExp, sums}
+use Rattle.phred.specs.Phred.{lnZero, allLnZero, lowerOf, lowestFrom, lnSumExp, lnSumExpFold}
 
 module _ (xs : List Float) (i : ℕ) where
   zeros-more : i < length xs → allLnZero (drop i xs) ≡ (eq (getD xs i nan) lnZero && allLnZero (drop (i + 1) xs))
@@ -37,17 +37,17 @@ module _ (xs : List Float) (i : ℕ) where
   unfolding lowestFrom
   lowest-done l h = rw (drop-of-length-le xs h)
 
-  pub sums-more : (t : Float) → i < length xs → sums t (drop i xs) ≡ sums (lnSumExp t (getD xs i nan)) (drop (i + 1) xs)
-  unfolding sums
+  pub sums-more : (t : Float) → i < length xs → lnSumExpFold t (drop i xs) ≡ lnSumExpFold (lnSumExp t (getD xs i nan)) (drop (i + 1) xs)
+  unfolding lnSumExpFold
   sums-more t h = rw (drop-cons xs i nan h, add-one)
 
-  pub sums-done : (t : Float) → length xs ≤ i → sums t (drop i xs) ≡ t
-  unfolding sums
+  pub sums-done : (t : Float) → length xs ≤ i → lnSumExpFold t (drop i xs) ≡ t
+  unfolding lnSumExpFold
   sums-done t h = rw (drop-of-length-le xs h)
 
 -- a sum over two lists, one after the other
-pub sums-append : (t : Float) (xs ys : List Float) → sums t (xs ++ ys) ≡ sums (sums t xs) ys
-unfolding sums
+pub sums-append : (t : Float) (xs ys : List Float) → lnSumExpFold t (xs ++ ys) ≡ lnSumExpFold (lnSumExpFold t xs) ys
+unfolding lnSumExpFold
 sums-append t [] ys = refl
 sums-append t (x ∷ xs) ys = sums-append (lnSumExp t x) xs ys
 

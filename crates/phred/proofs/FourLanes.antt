@@ -5,10 +5,10 @@ use mathlib.Core.List.{List, [], _∷_}
 use native.Mathlib.Omega.{arith}
 use lib.ListN.{length, getD}
 use lib.Ieee.{Float, nan, inf, fin, lt, eq, neg, div, ofBits}
-use Rattle.float.specs.Ops.{infinite}
+use Rattle.float.specs.Ops.{plusInfinity}
 use Rattle.words.proofs.Cases.{test, clash, both}
-use Rattle.phred.specs.Phred.{lnZero, lnSumExp, allLnZero, lowerOf, lowestFrom, startLane, sums, sumFrom, lnSumExpArray}
-use Rattle.phred.specs.FourLanes.{leastOf, firstTwo, firstThree, sumOfFour, sumOfLanes}
+use Rattle.phred.specs.Phred.{lnZero, lnSumExp, allLnZero, lowerOf, lowestFrom, startLane, lnSumExpFold, lnSumExpFrom, lnSumExpArray}
+use Rattle.phred.specs.FourLanes.{leastOf, firstTwo, firstThree, lnSumExpFour, lnSumExpLanes}
 
 -- what equals -infinity is -infinity
 is-zero : (x : Float) → eq x lnZero ≡ true → x ≡ lnZero
@@ -19,11 +19,11 @@ is-zero (inf false) h = clash refl h
 is-zero (fin s m e) h = clash refl h
 
 -- four lanes of -infinity need no test of their own
-zeros : sumOfLanes lnZero lnZero lnZero lnZero ≡ lnZero
-unfolding sumOfLanes sumOfFour firstThree firstTwo leastOf lnSumExp lt eq neg div ofBits
+zeros : lnSumExpLanes lnZero lnZero lnZero lnZero ≡ lnZero
+unfolding lnSumExpLanes lnSumExpFour firstThree firstTwo leastOf lnSumExp lt eq neg div ofBits
 zeros = refl
 
-all-zeros : (a b c d : Float) → allLnZero (a ∷ b ∷ c ∷ d ∷ []) ≡ true → sumOfLanes a b c d ≡ lnZero
+all-zeros : (a b c d : Float) → allLnZero (a ∷ b ∷ c ∷ d ∷ []) ≡ true → lnSumExpLanes a b c d ≡ lnZero
 unfolding allLnZero
 all-zeros a b c d h =
     let p = both (eq a lnZero) _ h in
@@ -33,13 +33,13 @@ all-zeros a b c d h =
     rw (is-zero a (p .0), is-zero b (q .0), is-zero c (r .0), is-zero d (s .0)) zeros
 
 -- lane 0 as the lowest so far
-first : (a : Float) → lowerOf (record { place = 0; value = infinite }) 0 a ≡ record { place = 0; value = leastOf a }
+first : (a : Float) → lowerOf (record { place = 0; value = plusInfinity }) 0 a ≡ record { place = 0; value = leastOf a }
 unfolding lowerOf leastOf
-first a = test (lt a infinite) (λ t. rw t) (λ t. rw t)
+first a = test (lt a plusInfinity) (λ t. rw t) (λ t. rw t)
 
 -- the three tests that follow, whatever comes of each
-from-start : (a b c d : Float) → sumFrom (a ∷ b ∷ c ∷ d ∷ []) (startLane (a ∷ b ∷ c ∷ d ∷ []) .place) ≡ sumOfLanes a b c d
-unfolding startLane lowestFrom lowerOf sumFrom sums sumOfLanes sumOfFour firstThree firstTwo
+from-start : (a b c d : Float) → lnSumExpFrom (a ∷ b ∷ c ∷ d ∷ []) (startLane (a ∷ b ∷ c ∷ d ∷ []) .place) ≡ lnSumExpLanes a b c d
+unfolding startLane lowestFrom lowerOf lnSumExpFrom lnSumExpFold lnSumExpLanes lnSumExpFour firstThree firstTwo
 from-start a b c d =
     rw (first a)
     (test (lt b (leastOf a))
@@ -50,7 +50,7 @@ from-start a b c d =
     (λ q. test (lt d c) (λ r. rw (p, q, r)) (λ r. rw (p, q, r)))
     (λ q. test (lt d (leastOf a)) (λ r. rw (p, q, r)) (λ r. rw (p, q, r)))))
 
-pub four-lanes : (a b c d : Float) → sumOfLanes a b c d ≡ lnSumExpArray (a ∷ b ∷ c ∷ d ∷ [])
+pub four-lanes : (a b c d : Float) → lnSumExpLanes a b c d ≡ lnSumExpArray (a ∷ b ∷ c ∷ d ∷ [])
 unfolding lnSumExpArray
 four-lanes a b c d = test (allLnZero (a ∷ b ∷ c ∷ d ∷ [])) (λ z. rw z (all-zeros a b c d z)) (λ z. rw z (sym (from-start a b c d)))
 

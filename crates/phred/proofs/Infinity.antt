@@ -9,18 +9,18 @@ use lib.Dec.{T}
 use lib.ListN.{length, getD, take, drop}
 use lib.Ieee.{Float, nan, binary64, fits, lt, le, eq, neg, div, ofBits, isNan}
 use lib.Ieee.Fits.{add-fits, sub-fits}
-use Rattle.float.specs.Ops.{_⊕_, _⊖_, bits, nought}
+use Rattle.float.specs.Ops.{_⊕_, _⊖_, bits, plusZero}
 use Rattle.words.proofs.Cases.{test, clash, choice, both}
 use Rattle.float.proofs.Order.{ne-self, lt-trans, lt-le, le-numbers, not-lt-le}
 use Rattle.float.proofs.Sums.{add-not-below, add-not-minus-infinity}
 use Rattle.elementary.specs.Exp.{expOf}
 use Rattle.elementary.proofs.Signs.{exp-from-0, exp-not-below, ln-one-plus-not-below}
-use Rattle.phred.specs.Phred.{lnZero, log1pexpZero, log1pexpOf, lnSumExpGeneral, lnSumExp, allLnZero, startLane, sums, sumFrom, lnSumExpArray}
+use Rattle.phred.specs.Phred.{lnZero, log1pexpZero, log1pexpOf, lnSumExpGeneral, lnSumExp, allLnZero, startLane, lnSumExpFold, lnSumExpFrom, lnSumExpArray}
 use Rattle.phred.proofs.Start.{start-inside}
 
 -- not below 0
 abbrev Up : Float → Type 0
-Up y = lt y nought ≡ false
+Up y = lt y plusZero ≡ false
 
 -- 18 and 33.3
 abbrev eighteen : Float
@@ -29,15 +29,15 @@ eighteen = bits 0x4032_0000_0000_0000
 abbrev thirtyThree : Float
 thirtyThree = bits 0x4040_a666_6666_6666
 
-above-0 : (lt nought eighteen ≡ true) × (lt nought thirtyThree ≡ true) × (isNan eighteen ≡ false)
+above-0 : (lt plusZero eighteen ≡ true) × (lt plusZero thirtyThree ≡ true) × (isNan eighteen ≡ false)
 unfolding lt isNan ofBits
 above-0 = (refl, refl, refl)
 
 -- a sum with something from 0 on, of a number above 18
 sum-up : (x z : Float) → T (fits binary64 x) → le x eighteen ≡ false → isNan x ≡ false → Up z → Up (x ⊕ z)
 sum-up x z f h n u =
-    test (lt (x ⊕ z) nought)
-    (λ t. clash (add-not-below x z f u) (lt-trans (x ⊕ z) nought x t (lt-trans nought eighteen x (above-0 .0) over)))
+    test (lt (x ⊕ z) plusZero)
+    (λ t. clash (add-not-below x z f u) (lt-trans (x ⊕ z) plusZero x t (lt-trans plusZero eighteen x (above-0 .0) over)))
     (λ t. t)
   where
     over : lt eighteen x ≡ true
@@ -50,7 +50,7 @@ log1pexp-up x f =
     choice Up (le x (neg (bits 0x4042_8000_0000_0000))) (expOf x) _ (λ t. exp-not-below x)
     (λ a. choice Up (le x eighteen) _ _ (λ t. ln-one-plus-not-below (expOf x) (exp-from-0 x (ne-self x ∙ le-numbers x eighteen t .0)))
     (λ b. choice Up (le x thirtyThree) _ x (λ t. sum-up x (expOf (neg x)) f b (le-numbers x thirtyThree t .0) (exp-not-below (neg x)))
-    (λ c. test (lt x nought) (λ t. clash c (lt-le x thirtyThree (lt-trans x nought thirtyThree t (above-0 .1)))) (λ t. t))))
+    (λ c. test (lt x plusZero) (λ t. clash c (lt-le x thirtyThree (lt-trans x plusZero thirtyThree t (above-0 .1)))) (λ t. t))))
 
 -- not -infinity
 abbrev Some : Float → Type 0
@@ -114,8 +114,8 @@ lanes-append [] ys h k = k
 lanes-append (x ∷ xs) ys h k = (h .0, lanes-append xs ys (h .1) k)
 
 -- a sum that is 0 has nothing but zeros in it
-sums-none : (t : Float) (xs : List Float) → T (fits binary64 t) → Lanes xs → eq (sums t xs) lnZero ≡ true → (eq t lnZero ≡ true) × (allLnZero xs ≡ true)
-unfolding sums allLnZero
+sums-none : (t : Float) (xs : List Float) → T (fits binary64 t) → Lanes xs → eq (lnSumExpFold t xs) lnZero ≡ true → (eq t lnZero ≡ true) × (allLnZero xs ≡ true)
+unfolding lnSumExpFold allLnZero
 sums-none t [] f l h = (h, refl)
 sums-none t (x ∷ xs) f l h =
     let r = sums-none (lnSumExp t x) xs (sum-fits t x f (l .0)) (l .1) h in
@@ -134,7 +134,7 @@ zeros-join (suc k) (x ∷ xs) h z e =
 
 -- -infinity nowhere else
 pub array-none : (xs : List Float) → ((j : ℕ) → T (fits binary64 (getD xs j nan))) → eq (lnSumExpArray xs) lnZero ≡ true → allLnZero xs ≡ true
-unfolding lnSumExpArray sumFrom
+unfolding lnSumExpArray lnSumExpFrom
 array-none xs f h =
     test (allLnZero xs) (λ z. z)
     (λ s.

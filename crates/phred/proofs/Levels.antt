@@ -3,13 +3,13 @@ use Prim.Native.Nat.{ℕ, _≤_}
 use native.Mathlib.Omega.{arith}
 use lib.Ieee.{Float, lt, isNan}
 use Rattle.words.proofs.Cases.{choice}
-use Rattle.phred.specs.Phred.{held, maxPhredAsLnError, lnProbToPhred}
+use Rattle.phred.specs.Phred.{clamped, maxPhredAsLnError, lnProbToPhred}
 
 -- from 2 to 93
 abbrev pub Level : ℕ → Type 0
 Level q = (2 ≤ q) × (q ≤ 93)
 
-held-level : (n : ℕ) → Level (held n)
+held-level : (n : ℕ) → Level (clamped n)
 held-level n = (omega arith, omega arith)
 
 pub levels : (p : Float) → Level (lnProbToPhred p)

@@ -5,7 +5,7 @@ use mathlib.Core.Logic.{⊎-elim}
 use lib.Dec.{T}
 use lib.Ieee.{Float, nan, inf, fin, eq, neg, div, ofBits}
 use lib.Ieee.Scale.{finite}
-use Rattle.float.specs.Ops.{_⊕_, _⊖_, nought}
+use Rattle.float.specs.Ops.{_⊕_, _⊖_, plusZero}
 use Rattle.float.proofs.Order.{eq-neither}
 use Rattle.float.proofs.Sums.{equal-difference}
 use Rattle.phred.specs.Phred.{log1pexpZero, lnZero, log1pexpOf, lnSumExpGeneral, lnSumExp}
@@ -16,7 +16,7 @@ pub short-way : (a b : Float) → T (finite a) → eq a b ≡ true → lnSumExpG
 unfolding lnSumExpGeneral
 short-way a b f h =
     rw (eq-neither a b h .1)
-    (⊎-elim (λ d. from nought d log1pexp-zero) (λ d. from (neg nought) d log1pexp-minus-zero) (equal-difference a b f h))
+    (⊎-elim (λ d. from plusZero d log1pexp-zero) (λ d. from (neg plusZero) d log1pexp-minus-zero) (equal-difference a b f h))
   where
     from : (z : Float) → b ⊖ a ≡ z → log1pexpOf z ≡ log1pexpZero → a ⊕ log1pexpOf (b ⊖ a) ≡ a ⊕ log1pexpZero
     from z d e = ap (λ y. a ⊕ log1pexpOf y) d ∙ ap (λ y. a ⊕ y) e

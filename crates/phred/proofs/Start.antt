@@ -10,7 +10,7 @@ use lib.Dec.{ltb}
 use lib.ListN.{length, getD, List·getD-eq-default}
 use borrow.Author.Tests.{ltb-true, ltb-false}
 use lib.Ieee.{Float, nan, inf, fin, lt, eq, div, ofBits}
-use Rattle.float.specs.Ops.{infinite}
+use Rattle.float.specs.Ops.{plusInfinity}
 use Rattle.words.specs.Choice.{if_then_else_}
 use Rattle.words.proofs.Cases.{test, clash, refuted}
 use Rattle.float.proofs.Order.{nan-not-lt, lt-trans, lt-irrefl, lt-numbers, le-or, not-lt-le, eq-lt}
@@ -19,7 +19,7 @@ use Rattle.phred.specs.Phred.{allLnZero, lowerOf, lowestFrom, startLane}
 use Rattle.phred.specs.Start.{Starts, OneStart}
 
 -- what is below something is below +infinity
-below-infinity : (x y : Float) → lt x y ≡ true → lt x infinite ≡ true
+below-infinity : (x y : Float) → lt x y ≡ true → lt x plusInfinity ≡ true
 unfolding lt div ofBits
 below-infinity nan y h = h
 below-infinity (inf true) y h = refl
@@ -29,8 +29,8 @@ below-infinity (inf false) (fin t n d) h = h
 below-infinity (fin s m e) y h = refl
 
 -- two lanes below +infinity are equal where neither is below the other
-neither-below : (x y : Float) → lt x infinite ≡ true → lt y infinite ≡ true → lt x y ≡ false → lt y x ≡ false → eq x y ≡ true
-neither-below x y p q h k = ⊎-elim (λ t. clash h t) (λ t. t) (le-or x y (not-lt-le y x (lt-numbers y infinite q .0) (lt-numbers x infinite p .0) k))
+neither-below : (x y : Float) → lt x plusInfinity ≡ true → lt y plusInfinity ≡ true → lt x y ≡ false → lt y x ≡ false → eq x y ≡ true
+neither-below x y p q h k = ⊎-elim (λ t. clash h t) (λ t. t) (le-or x y (not-lt-le y x (lt-numbers y plusInfinity q .0) (lt-numbers x plusInfinity p .0) k))
 
 -- a lane that is lower takes over, and else all stays
 lower-case : (l : Lowest) (i : ℕ) (x : Float)
@@ -46,14 +46,14 @@ lower-case l i x = go (lt x (l .value))
 module _ (g : ℕ → Float) where
   -- l is one of the first i lanes, below +infinity, and the first of its value
   abbrev Found : Lowest → ℕ → Type 0
-  Found l i = (l .place < i) × (l .value ≡ g (l .place)) × (lt (l .value) infinite ≡ true) × ((j : ℕ) → j < l .place → eq (g j) (l .value) ≡ false)
+  Found l i = (l .place < i) × (l .value ≡ g (l .place)) × (lt (l .value) plusInfinity ≡ true) × ((j : ℕ) → j < l .place → eq (g j) (l .value) ≡ false)
 
   -- what is known of the lowest of the first i lanes
   record Seen (l : Lowest) (i : ℕ) : Type 0 where
     none : (j : ℕ) → j < i → lt (g j) (l .value) ≡ false
-    found : ((l .value ≡ infinite) × (l .place ≡ 0)) ⊎ Found l i
+    found : ((l .value ≡ plusInfinity) × (l .place ≡ 0)) ⊎ Found l i
 
-  under-infinity : (l : Lowest) (i : ℕ) (x : Float) → Seen l i → lt x (l .value) ≡ true → lt x infinite ≡ true
+  under-infinity : (l : Lowest) (i : ℕ) (x : Float) → Seen l i → lt x (l .value) ≡ true → lt x plusInfinity ≡ true
   under-infinity l i x s h = below-infinity x (l .value) h
 
   last : (i : ℕ) (P : ℕ → Type 0) → ((j : ℕ) → j < i → P j) → P i → (j : ℕ) → j < suc i → P j
@@ -92,7 +92,7 @@ module _ (g : ℕ → Float) where
       shift i k = omega arith
 
 -- before the first lane
-nothing-seen : (g : ℕ → Float) → Seen g (record { place = 0; value = infinite }) 0
+nothing-seen : (g : ℕ → Float) → Seen g (record { place = 0; value = plusInfinity }) 0
 nothing-seen g = record { none = λ j k. absurd (not-suc-le-zero k); found = inl (refl, refl) }
 
 -- a place is past a length, or before it
@@ -111,9 +111,9 @@ module _ (xs : List Float) where
   not-before : (s t : ℕ) → Starts xs s → Starts xs t → s < t → ⊥
   unfolding lane
   not-before s t a b k =
-      test (lt (lane s) infinite)
+      test (lt (lane s) plusInfinity)
       (λ h. clash (b .first s k) (neither-below (lane s) (lane t) h (b .below s h) (b .lowest s) (a .lowest t)))
-      (λ h. not-suc-le-zero (rw (b .lane-0 (λ j. refuted (lt (lane j) infinite) (λ u. clash h (a .below j u)))) at k))
+      (λ h. not-suc-le-zero (rw (b .lane-0 (λ j. refuted (lt (lane j) plusInfinity) (λ u. clash h (a .below j u)))) at k))
 
   seen : Seen lane (startLane xs) (length xs)
   unfolding startLane lane

@@ -4,14 +4,14 @@ use mathlib.Core.Bool.{Bool}
 use mathlib.Core.List.{List, [], _∷_}
 use lib.Dec.{eqb}
 use lib.Ieee.{nan, neg, isNan}
-use Rattle.float.specs.Ops.{nought, one, infinite}
+use Rattle.float.specs.Ops.{plusZero, one, plusInfinity}
 use Rattle.float.specs.Claims.{same}
 use Rattle.words.specs.Claims.{everyFrom}
-use Rattle.phred.specs.Phred.{log1pexpZero, lnZero, held, phredToLnErrorProb, phredToLnCorrectProb, lnProbToPhred, log1pexpOf, lnErrorProbTwoTrials, lnSumExpArray}
+use Rattle.phred.specs.Phred.{log1pexpZero, lnZero, clamped, phredToLnErrorProb, phredToLnCorrectProb, lnProbToPhred, log1pexpOf, lnErrorProbTwoTrials, lnSumExpArray}
 
 -- a level, made a logarithm and a level again, is itself, held to 2 .. 93
 unfoldable pub comesBack : ℕ → Bool
-comesBack q = eqb (lnProbToPhred (phredToLnErrorProb q)) (held q)
+comesBack q = eqb (lnProbToPhred (phredToLnErrorProb q)) (clamped q)
 
 -- In turn: the level of NaN, of the infinities, of -0.0, of 0.0; the logarithms of level 0; log1pexp(0) bit for bit; the panic of the Rust at the logarithms
 -- (1, 1); the sum of no lanes, of lanes that are all -infinity, and of one lane that is not; every level from 0 to 93 comes back.
@@ -19,12 +19,12 @@ abbrev pub corners : List Bool
 corners =
     eqb (lnProbToPhred nan) 2
     ∷ eqb (lnProbToPhred lnZero) 93
-    ∷ eqb (lnProbToPhred infinite) 2
-    ∷ eqb (lnProbToPhred (neg nought)) 2
-    ∷ eqb (lnProbToPhred nought) 2
-    ∷ same (phredToLnErrorProb 0) (neg nought)
+    ∷ eqb (lnProbToPhred plusInfinity) 2
+    ∷ eqb (lnProbToPhred (neg plusZero)) 2
+    ∷ eqb (lnProbToPhred plusZero) 2
+    ∷ same (phredToLnErrorProb 0) (neg plusZero)
     ∷ same (phredToLnCorrectProb 0) lnZero
-    ∷ same (log1pexpOf nought) log1pexpZero
+    ∷ same (log1pexpOf plusZero) log1pexpZero
     ∷ isNan (lnErrorProbTwoTrials one one)
     ∷ same (lnSumExpArray []) lnZero
     ∷ same (lnSumExpArray (lnZero ∷ lnZero ∷ lnZero ∷ lnZero ∷ [])) lnZero

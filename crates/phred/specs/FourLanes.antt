@@ -1,6 +1,6 @@
 -- The sum of four lanes as it is run: the lane to start from is moved to the front as the lanes are met. Definitions only.
 use lib.Ieee.{Float, lt}
-use Rattle.float.specs.Ops.{infinite}
+use Rattle.float.specs.Ops.{plusInfinity}
 use Rattle.words.specs.Choice.{if_then_else_}
 use Rattle.phred.specs.declared.four_lanes.FirstTwo.{FirstTwo}
 use Rattle.phred.specs.declared.four_lanes.FirstThree.{FirstThree}
@@ -9,8 +9,8 @@ use Rattle.phred.specs.Phred.{lnSumExp}
 -- lane 0, where it is below +infinity, and else that
 unfoldable pub leastOf : Float → Float
 leastOf a =
-    if lt a infinite then a
-    else infinite
+    if lt a plusInfinity then a
+    else plusInfinity
 
 -- after two lanes: the lowest, the one to start from, and the other
 unfoldable pub firstTwo : Float → Float → FirstTwo
@@ -25,12 +25,12 @@ firstThree t a b c =
     else record { least = t .least; start = t .start; next = t .next; last = c }
 
 -- four lanes, folded in this order
-unfoldable pub sumOfFour : Float → Float → Float → Float → Float
-sumOfFour a b c d = lnSumExp (lnSumExp (lnSumExp a b) c) d
+unfoldable pub lnSumExpFour : Float → Float → Float → Float → Float
+lnSumExpFour a b c d = lnSumExp (lnSumExp (lnSumExp a b) c) d
 
 -- all four: the last where it is the lowest comes first
-unfoldable pub sumOfLanes : Float → Float → Float → Float → Float
-sumOfLanes a b c d =
+unfoldable pub lnSumExpLanes : Float → Float → Float → Float → Float
+lnSumExpLanes a b c d =
     let t = firstThree (firstTwo a b) a b c in
-    if lt d (t .least) then sumOfFour d a b c
-    else sumOfFour (t .start) (t .next) (t .last) d
+    if lt d (t .least) then lnSumExpFour d a b c
+    else lnSumExpFour (t .start) (t .next) (t .last) d

@@ -5,7 +5,7 @@ use mathlib.Core.Bool.{Bool, true, _&&_}
 use mathlib.Core.List.{List, [], _∷_, _++_}
 use lib.ListN.{getD, take, drop}
 use lib.Ieee.{Float, nan, lt, le, eq, neg, isNan}
-use Rattle.float.specs.Ops.{_⊕_, _⊖_, _⊗_, _⊘_, bits, whole, nought, one, infinite}
+use Rattle.float.specs.Ops.{_⊕_, _⊖_, _⊗_, _⊘_, bits, whole, plusZero, one, plusInfinity}
 use Rattle.words.specs.Choice.{if_then_else_}
 use Rattle.float.specs.Methods.{absOf, floorOf}
 use Rattle.elementary.specs.Exp.{expOf}
@@ -36,7 +36,7 @@ lnFourThirds = bits 0x3fd2_6962_1134_db92
 
 -- the logarithm of 0: -infinity
 abbrev pub lnZero : Float
-lnZero = neg one ⊘ nought
+lnZero = neg one ⊘ plusZero
 
 -- the least and the highest level of a call
 abbrev pub minPhred : ℕ
@@ -52,7 +52,7 @@ phredToLnErrorProb q = neg (whole q) ⊗ ln10 ⊘ ten
 -- ln(1 - exp x), by equation (7): near 0 from exp(x) - 1, further below from ln(1 + v)
 unfoldable pub lnOneMinusExp : Float → Float
 lnOneMinusExp x =
-    if le nought x then lnZero
+    if le plusZero x then lnZero
     else if le (neg lnTwo) x then lnOf (neg (expMinusOneOf x))
     else lnOnePlusOf (neg (expOf x))
 
@@ -61,8 +61,8 @@ unfoldable pub phredToLnCorrectProb : ℕ → Float
 phredToLnCorrectProb q = lnOneMinusExp (phredToLnErrorProb q)
 
 -- a whole number, held to the levels of a call
-abbrev pub held : ℕ → ℕ
-held n = max minPhred (min maxPhred n)
+abbrev pub clamped : ℕ → ℕ
+clamped n = max minPhred (min maxPhred n)
 
 -- the logarithm of the error at level 93: -93 · ln 10 / 10, rounded
 abbrev pub maxPhredAsLnError : Float
@@ -74,7 +74,7 @@ unfoldable pub lnProbToPhred : Float → ℕ
 lnProbToPhred p =
     if lt p maxPhredAsLnError then maxPhred
     else if isNan p then minPhred
-    else held (floorOf (neg ten ⊗ p ⊘ ln10 ⊕ bits 0x3f50_624d_d2f1_a9fc))
+    else clamped (floorOf (neg ten ⊗ p ⊘ ln10 ⊕ bits 0x3f50_624d_d2f1_a9fc))
 
 -- ln(1 + exp x), by equation (10): up to -37 exp x, up to 18 by ln(1 + v), up to 33.3 x + exp(-x), and above x
 unfoldable pub log1pexpOf : Float → Float
@@ -89,7 +89,7 @@ unfoldable pub lnAMinusB : Float → Float → Float
 lnAMinusB a b =
     if eq b lnZero then a
     else if lt (absOf (a ⊖ b)) (bits 0x3cb0_0000_0000_0000) then lnZero
-    else if lt a b then nought ⊘ nought
+    else if lt a b then plusZero ⊘ plusZero
     else a ⊕ lnOneMinusExp (b ⊖ a)
 
 -- ln(exp a + exp b) where neither exponential is 0: from the smaller of the two, a where they are equal
@@ -137,22 +137,22 @@ lowestFrom l i (x ∷ xs) = lowestFrom (lowerOf l i x) (suc i) xs
 
 -- the lane that a sum starts from: the lowest, the first of several, and lane 0 if none is below +infinity
 unfoldable pub startLane : List Float → Lowest
-startLane xs = lowestFrom (record { place = 0; value = infinite }) 0 xs
+startLane xs = lowestFrom (record { place = 0; value = plusInfinity }) 0 xs
 
 -- ln(exp x + exp y + ..), folded in the list's order
-unfoldable pub sums : Float → List Float → Float
-sums x [] = x
-sums x (y ∷ ys) = sums (lnSumExp x y) ys
+unfoldable pub lnSumExpFold : Float → List Float → Float
+lnSumExpFold x [] = x
+lnSumExpFold x (y ∷ ys) = lnSumExpFold (lnSumExp x y) ys
 
 -- the lane k with the others folded in, in lane order
-unfoldable pub sumFrom : List Float → ℕ → Float
-sumFrom xs k = sums (getD xs k nan) (take k xs ++ drop (k + 1) xs)
+unfoldable pub lnSumExpFrom : List Float → ℕ → Float
+lnSumExpFrom xs k = lnSumExpFold (getD xs k nan) (take k xs ++ drop (k + 1) xs)
 
 -- the logarithm of the sum of all exponentials: -infinity if every lane is, and else from the start lane
 unfoldable pub lnSumExpArray : List Float → Float
 lnSumExpArray xs =
     if allLnZero xs then lnZero
-    else sumFrom xs (startLane xs .place)
+    else lnSumExpFrom xs (startLane xs .place)
 
 -- the logarithm of a quotient
 unfoldable pub lnNormalize : Float → Float → Float

@@ -1,10 +1,10 @@
 // ln_sum_exp_array for four lanes, as they are run: no walk over a slice, and the lane to start from is
 // moved to the front by comparisons alone.
 ghost use mathlib.Core.Path.{_≡_};
-ghost use Rattle.phred.specs.FourLanes.{leastOf, firstTwo, firstThree, sumOfFour};
+ghost use Rattle.phred.specs.FourLanes.{leastOf, firstTwo, firstThree, lnSumExpFour};
 ghost use Rattle.phred.specs.Phred.{lnSumExpArray};
 use crate::LogProbability;
-use crate::sum_of_two;
+use crate::ln_sum_exp_f64;
 
 // Two lanes as a sum takes them: the lowest, the one to start from, and the other.
 pub struct FirstTwo {
@@ -69,10 +69,10 @@ fn first_three(two: FirstTwo, a: f64, b: f64, c: f64) -> FirstThree
 }
 
 // in this order
-fn sum_of_four(a: f64, b: f64, c: f64, d: f64) -> f64
-    ensures { λ r. ⌜ r ≡ sumOfFour a b c d ⌝ }
+fn ln_sum_exp_four(a: f64, b: f64, c: f64, d: f64) -> f64
+    ensures { λ r. ⌜ r ≡ lnSumExpFour a b c d ⌝ }
 {
-    sum_of_two(sum_of_two(sum_of_two(a, b), c), d)
+    ln_sum_exp_f64(ln_sum_exp_f64(ln_sum_exp_f64(a, b), c), d)
 }
 
 // The logarithm of the sum of four exponentials.
@@ -85,7 +85,7 @@ pub fn ln_sum_exp_lanes(values: [f64; 4]) -> LogProbability
     let d = values[3];
     let three = first_three(first_two(a, b), a, b, c);
     if d < three.least {
-        return LogProbability(sum_of_four(d, a, b, c));
+        return LogProbability(ln_sum_exp_four(d, a, b, c));
     }
-    LogProbability(sum_of_four(three.start, three.next, three.last, d))
+    LogProbability(ln_sum_exp_four(three.start, three.next, three.last, d))
 }

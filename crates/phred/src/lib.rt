@@ -4,7 +4,7 @@
 ghost use mathlib.Core.Path.{_≡_};
 ghost use Prim.Native.Nat.{_<_};
 ghost use lib.ListN.{length};
-ghost use Rattle.phred.specs.Phred.{phredToLnErrorProb, phredToLnCorrectProb, held, lnProbToPhred, log1pexpOf, lnOneMinusExp, lnAMinusB, twoTrials, lnErrorProbTwoTrials, lnSumExp, allLnZero, lowerOf, startLane, sums, sumFrom, lnSumExpArray, lnNormalize, lnNot};
+ghost use Rattle.phred.specs.Phred.{phredToLnErrorProb, phredToLnCorrectProb, clamped, lnProbToPhred, log1pexpOf, lnOneMinusExp, lnAMinusB, twoTrials, lnErrorProbTwoTrials, lnSumExp, allLnZero, lowerOf, startLane, lnSumExpFold, lnSumExpFrom, lnSumExpArray, lnNormalize, lnNot};
 
 mod four_lanes;
 
@@ -74,12 +74,12 @@ pub fn ln_prob_to_phred(ln_prob: LogProbability) -> PhredScore
     if float::is_nan(p) {
         return PhredScore(MIN_PHRED);
     }
-    PhredScore(hold(float::floor_to_u64(-10.0 * p / LN_10 + PHRED_PRECISION)))
+    PhredScore(clamp(float::floor_to_u64(-10.0 * p / LN_10 + PHRED_PRECISION)))
 }
 
-// n, held to the levels of a call.
-fn hold(n: u64) -> u8
-    ensures { λ r. ⌜ r ≡ held n ⌝ }
+// n, clamped to the levels of a call.
+fn clamp(n: u64) -> u8
+    ensures { λ r. ⌜ r ≡ clamped n ⌝ }
 {
     if n < 2 {
         return MIN_PHRED;
@@ -140,11 +140,11 @@ pub fn ln_a_minus_b(a: f64, b: f64) -> f64
 pub fn ln_error_prob_two_trials(ln_p1: LogProbability, ln_p2: LogProbability) -> LogProbability
     ensures { λ r. ⌜ r .0 ≡ lnErrorProbTwoTrials («ln_p1» .0) («ln_p2» .0) ⌝ }
 {
-    LogProbability(in_either_trial(ln_p1.0, ln_p2.0))
+    LogProbability(two_trials_any_order(ln_p1.0, ln_p2.0))
 }
 
 // The same on plain numbers: a struct that is returned goes through memory.
-fn in_either_trial(p: f64, q: f64) -> f64
+fn two_trials_any_order(p: f64, q: f64) -> f64
     ensures { λ r. ⌜ r ≡ lnErrorProbTwoTrials p q ⌝ }
 {
     if p < q {
@@ -160,7 +160,7 @@ fn two_trials(larger: f64, smaller: f64) -> f64
     if larger - smaller >= 6.0 {
         return larger;
     }
-    let term1 = sum_of_two(larger, smaller);
+    let term1 = ln_sum_exp_f64(larger, smaller);
     let term2 = LN_FOUR_THIRDS + larger + smaller;
     ln_a_minus_b(term1, term2)
 }
@@ -169,11 +169,11 @@ fn two_trials(larger: f64, smaller: f64) -> f64
 pub fn ln_sum_exp(ln_a: LogProbability, ln_b: LogProbability) -> LogProbability
     ensures { λ r. ⌜ r .0 ≡ lnSumExp («ln_a» .0) («ln_b» .0) ⌝ }
 {
-    LogProbability(sum_of_two(ln_a.0, ln_b.0))
+    LogProbability(ln_sum_exp_f64(ln_a.0, ln_b.0))
 }
 
 // The same on plain numbers.
-fn sum_of_two(a: f64, b: f64) -> f64
+fn ln_sum_exp_f64(a: f64, b: f64) -> f64
     ensures { λ r. ⌜ r ≡ lnSumExp a b ⌝ }
 {
     if a == -1.0 / 0.0 {
@@ -199,16 +199,16 @@ pub fn ln_sum_exp_array(values: &[f64]) -> LogProbability
     if all_ln_zero(values) {
         return LogProbability(-1.0 / 0.0);
     }
-    LogProbability(sum_from(values, start_lane(values).place))
+    LogProbability(ln_sum_exp_from(values, start_lane(values).place))
 }
 
 // The lane start, then those before it, then those after it.
-fn sum_from(values: &[f64], start: usize) -> f64
+fn ln_sum_exp_from(values: &[f64], start: usize) -> f64
     requires { ⌜ start < length (now values) ⌝ }
-    ensures { λ r. ⌜ r ≡ sumFrom (now (values .entry)) start ⌝ }
+    ensures { λ r. ⌜ r ≡ lnSumExpFrom (now (values .entry)) start ⌝ }
 {
-    let before = sum(values[start], &values[..start]);
-    sum(before, &values[start + 1..])
+    let before = ln_sum_exp_fold(values[start], &values[..start]);
+    ln_sum_exp_fold(before, &values[start + 1..])
 }
 
 // Whether every lane is -infinity, as of none.
@@ -256,13 +256,13 @@ fn lower(least: Lowest, i: usize, value: f64) -> Lowest
 }
 
 // first and all of the values, in their order
-fn sum(first: f64, values: &[f64]) -> f64
-    ensures { λ r. ⌜ r ≡ sums first (now (values .entry)) ⌝ }
+fn ln_sum_exp_fold(first: f64, values: &[f64]) -> f64
+    ensures { λ r. ⌜ r ≡ lnSumExpFold first (now (values .entry)) ⌝ }
 {
     let mut total = first;
     let mut i = 0;
     while i < values.len() {
-        total = sum_of_two(total, values[i]);
+        total = ln_sum_exp_f64(total, values[i]);
         i += 1;
     }
     total

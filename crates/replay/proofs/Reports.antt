@@ -9,15 +9,15 @@ use lib.ListN.{length, drop-of-length-le}
 use borrow.Author.Tests.{leb-false, eq-eqb, ne-eqb}
 use Rattle.words.specs.Choice.{if_then_else_}
 use Rattle.words.proofs.Cases.{test}
-use Rattle.lent_bytes.specs.Buffer.{replied, written}
+use Rattle.lent_bytes.specs.Buffer.{lengthWritten, written}
 use Rattle.replay.specs.declared.lines.Verdict.the-variants.{Equal, Differs, NotAnAnswer}
 use Rattle.words.specs.Lists.{sameBytes}
 use Rattle.replay.specs.Builders.{besideScript}
 
 module _ (bs out : List ℕ) (h : length out ≡ 91) where
   -- 91 bytes were written: they are what the buffer holds
-  whole : replied bs out ≡ 91 → (length bs ≡ 91) × (written bs out ≡ bs)
-  unfolding replied written
+  whole : lengthWritten bs out ≡ 91 → (length bs ≡ 91) × (written bs out ≡ bs)
+  unfolding lengthWritten written
   whole e =
       test (leb (length bs) (length out))
       (λ t.
@@ -27,14 +27,14 @@ module _ (bs out : List ℕ) (h : length out ≡ 91) where
       (λ f. absurd (let z : _≡_ {A = ℕ} 0 91 = rw f at e in omega arith))
 
   -- another number of bytes was written
-  other : (replied bs out ≡ 91 → ⊥) → eqb (length bs) 91 ≡ false
-  unfolding replied
+  other : (lengthWritten bs out ≡ 91 → ⊥) → eqb (length bs) 91 ≡ false
+  unfolding lengthWritten
   other n =
       test (leb (length bs) (length out))
       (λ t. ne-eqb (length bs) 91 (λ e. n (rw t e)))
       (λ f. ne-eqb (length bs) 91 (λ e. absurd (omega (arith, leb-false (length bs) (length out) f))))
 
-  module _ (letter : ℕ) (report : List ℕ) {n : ℕ} (r : n ≡ replied bs out) where
+  module _ (letter : ℕ) (report : List ℕ) {n : ℕ} (r : n ≡ lengthWritten bs out) where
     pub none : (n ≡ 91 → ⊥) → NotAnAnswer ≡ besideScript letter bs report
     none d = rw (other (λ e. d (r ∙ e)))
 

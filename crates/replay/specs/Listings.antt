@@ -5,7 +5,7 @@ use mathlib.Core.List.{List}
 use lib.Dec.{eqb, leb}
 use lib.ListN.{length, take, drop, getD, replicate}
 use Rattle.words.specs.Lists.{sameBytes}
-use Rattle.lent_bytes.specs.Buffer.{replied, written}
+use Rattle.lent_bytes.specs.Buffer.{lengthWritten, written}
 use Rattle.words.specs.Choice.{if_then_else_}
 use Rattle.column_listing.specs.Listing.{listingOf}
 use Rattle.replay.specs.declared.lines.Verdict.{Verdict}
@@ -43,7 +43,7 @@ besideText letter n held text =
 
 -- of a file's listing and the line's text
 abbrev pub besideListing : ℕ → List ℕ → List ℕ → Verdict
-besideListing letter listing text = besideText letter (replied listing room) (written listing room) text
+besideListing letter listing text = besideText letter (lengthWritten listing room) (written listing room) text
 
 -- of the bytes of the two fields; a length that is above what a field holds gives no answer
 abbrev pub besideFields : ℕ → List ℕ → List ℕ → Verdict

@@ -8,7 +8,7 @@ use lib.Dec.{leb}
 use lib.ListN.{length, take}
 use lib.Seq.{length-take-le, take-all}
 use Rattle.words.proofs.Cases.{test}
-use Rattle.lent_bytes.specs.Buffer.{replied, written}
+use Rattle.lent_bytes.specs.Buffer.{lengthWritten, written}
 use Rattle.refusals.specs.declared.Refusal.the-variants.{FileTooLong}
 use Rattle.column_file.proofs.FileRead.{file-long}
 use Rattle.listing_lines.specs.Lines.{refusalLine}
@@ -33,8 +33,8 @@ same-listing stream n room h e =
     long-listing stream (omega arith) ∙ sym (long-listing (take n room) (omega arith)))
 
 module _ (t out : List ℕ) (h : length t ≤ length out) where
-  pub fits-replied : replied t out ≡ length t
-  unfolding replied
+  pub fits-replied : lengthWritten t out ≡ length t
+  unfolding lengthWritten
   fits-replied = rw (le-leb (length t) (length out) h)
 
   pub fits-onto : written t out ≡ onto t out

@@ -4,7 +4,7 @@ ghost use mathlib.Core.Path.{_≡_};
 ghost use mathlib.Core.List.{List};
 ghost use Prim.Native.Nat.{ℕ, _<_};
 ghost use lib.ListN.{length, take};
-ghost use Rattle.lent_bytes.specs.Buffer.{replied, written};
+ghost use Rattle.lent_bytes.specs.Buffer.{lengthWritten, written};
 ghost use Rattle.column_listing.specs.Listing.{listingOf};
 ghost use Rattle.stream_listing.specs.Streams.{FrontOf, onto};
 
@@ -16,7 +16,7 @@ pub const TEXT_ROOM: usize = 2400000;
 
 // The listing of a room's first bytes, of all where it has no more.
 fn print_front(room: &[u8], read: usize, text: &mut [u8]) -> usize
-    ensures reply { λ r. ⌜ r ≡ replied (listingOf (take read (now (room .entry)))) (now (text .entry)) ⌝ }
+    ensures reply { λ r. ⌜ r ≡ lengthWritten (listingOf (take read (now (room .entry)))) (now (text .entry)) ⌝ }
     ensures lent { λ _. ⌜ now (text .exit) ≡ written (listingOf (take read (now (room .entry)))) (now (text .entry)) ⌝ }
 {
     if read < room.len() {

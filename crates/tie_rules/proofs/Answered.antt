@@ -11,12 +11,12 @@ use lib.Ieee.Scale.{finite}
 use borrow.Author.Tests.{lt-ltb}
 use Rattle.words.proofs.Cases.{choice}
 use Rattle.phred.specs.Phred.{lnZero}
-use Rattle.tie_rules.specs.declared.tie_rule.Run.{Run}
+use Rattle.tie_rules.specs.declared.tie_rule.Scan.{Scan}
 use Rattle.tie_rules.specs.declared.tie_rule.TieRule.{TieRule}
 use Rattle.tie_rules.specs.declared.tie_rule.TieRule.the-variants.{UlpRelative, FgbioCompat}
 use Rattle.tie_rules.specs.declared.unique_max.UniqueMax.{UniqueMax}
 use Rattle.tie_rules.specs.Lanes.{lane, noLane}
-use Rattle.tie_rules.specs.Ties.{fgbioTie, untied, taken, cancelled, fgbioStep, ulpStep, scan, unseen, lowest, fgbioUniqueMaxIndex, uniqueMaxIndex, notMinusInfinity, uniqueMaxIndexWith}
+use Rattle.tie_rules.specs.Ties.{fgbioTie, untied, newLead, cancelled, fgbioStep, ulpStep, scan, unseen, lowest, fgbioUniqueMaxIndex, uniqueMaxIndex, notMinusInfinity, uniqueMaxIndexWith}
 use Rattle.tie_rules.specs.UniqueMax.{laneNumber, uniqueMaxAt}
 use Rattle.tie_rules.proofs.Stands.{scan-keeps}
 
@@ -25,26 +25,26 @@ abbrev pub OneOf : ℕ → ℕ → Type 0
 OneOf n i = (i < n) ⊎ (i ≡ noLane)
 
 -- the lane that a scan of n lanes ends with
-abbrev Ends : ℕ → Run → Type 0
+abbrev Ends : ℕ → Scan → Type 0
 Ends n r = OneOf n (r .at)
 
 -- it may stay at one lane more
-stays : (n : ℕ) (r : Run) → Ends n r → Ends (suc n) r
+stays : (n : ℕ) (r : Scan) → Ends n r → Ends (suc n) r
 stays n r (inl h) = inl (omega arith)
 stays n r (inr e) = inr e
 
 module _ (xs : List Float) where
-  fgbio-ends : (n : ℕ) (r : Run) → Ends n r → Ends (suc n) (fgbioStep r n (lane xs n))
+  fgbio-ends : (n : ℕ) (r : Scan) → Ends n r → Ends (suc n) (fgbioStep r n (lane xs n))
   unfolding fgbioStep
   fgbio-ends n r h =
       let x = lane xs n in
       choice (Ends (suc n)) (isNan x) r _ (λ _. stays n r h)
-      (λ _. choice (Ends (suc n)) (not (r .seen) || lt (r .best) x) (taken x n) _ (λ _. inl (omega arith))
+      (λ _. choice (Ends (suc n)) (not (r .seen) || lt (r .best) x) (newLead x n) _ (λ _. inl (omega arith))
       (λ _. choice (Ends (suc n)) (fgbioTie x (r .best)) (cancelled r) r (λ _. inr refl) (λ _. stays n r h)))
 
-  ulp-ends : (n : ℕ) (r : Run) → Ends n r → Ends (suc n) (ulpStep r n (lane xs n))
+  ulp-ends : (n : ℕ) (r : Scan) → Ends n r → Ends (suc n) (ulpStep r n (lane xs n))
   unfolding ulpStep
-  ulp-ends n r h = let x = lane xs n in choice (Ends (suc n)) (lt (r .best) x) (taken x n) r (λ _. inl (omega arith)) (λ _. stays n r h)
+  ulp-ends n r h = let x = lane xs n in choice (Ends (suc n)) (lt (r .best) x) (newLead x n) r (λ _. inl (omega arith)) (λ _. stays n r h)
 
   pub fgbio-one : OneOf 4 (fgbioUniqueMaxIndex xs)
   unfolding fgbioUniqueMaxIndex

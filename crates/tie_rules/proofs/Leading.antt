@@ -16,11 +16,11 @@ use Rattle.float.proofs.Order.{lt-numbers, lt-trans, lt-not-eq}
 use Rattle.float.proofs.Turned.{turned}
 use Rattle.phred.specs.Phred.{lnZero}
 use Rattle.tie_rules.proofs.Stands.{nan-above}
-use Rattle.tie_rules.specs.declared.tie_rule.Run.{Run}
+use Rattle.tie_rules.specs.declared.tie_rule.Scan.{Scan}
 use Rattle.tie_rules.specs.declared.lead.Lead.{Lead}
 use Rattle.tie_rules.specs.Lanes.{lane, noLane}
 use Rattle.tie_rules.specs.Lead.{leadStep}
-use Rattle.tie_rules.specs.Ties.{fgbioTie, taken, cancelled, fgbioStep, scan, unseen, fgbioUniqueMaxIndex, notMinusInfinity}
+use Rattle.tie_rules.specs.Ties.{fgbioTie, newLead, cancelled, fgbioStep, scan, unseen, fgbioUniqueMaxIndex, notMinusInfinity}
 
 -- where it begins
 abbrev pub start : Lead
@@ -66,37 +66,37 @@ nan-apart (inf s) y h = clash refl h
 nan-apart (fin s m e) y h = clash refl h
 
 -- the running maximum and its lane, without the flag
-abbrev leads : Run → Lead
+abbrev leads : Scan → Lead
 leads r = record { best = r .best; at = r .at }
 
 module _ (xs : List Float) where
   -- no lane above -infinity was met: one that was taken is of -infinity
-  record None (r : Run) (l : Lead) : Type 0 where
+  record None (r : Scan) (l : Lead) : Type 0 where
     begins : l ≡ start
     lowest : (r .seen ≡ false) ⊎ (r .best ≡ lnZero)
     place : (r .at ≡ noLane) ⊎ ((r .at < 4) × (eq (lane xs (r .at)) lnZero ≡ true))
 
   -- one was met: both scans have it
-  record Some (r : Run) (l : Lead) : Type 0 where
+  record Some (r : Scan) (l : Lead) : Type 0 where
     same : l ≡ leads r
     seen : r .seen ≡ true
     above : lt lnZero (r .best) ≡ true
     place : r .at < 4 → lane xs (r .at) ≡ r .best
 
-  abbrev Alike : Run → Lead → Type 0
+  abbrev Alike : Scan → Lead → Type 0
   Alike r l = None r l ⊎ Some r l
 
-  module _ (n : ℕ) (inside : n < 4) (r : Run) where
+  module _ (n : ℕ) (inside : n < 4) (r : Scan) where
     abbrev x : Float
     x = lane xs n
 
     -- a lane above -infinity is taken by both
-    takes : lt lnZero x ≡ true → (r .seen ≡ false) ⊎ (r .best ≡ lnZero) → fgbioStep r n x ≡ taken x n
+    takes : lt lnZero x ≡ true → (r .seen ≡ false) ⊎ (r .best ≡ lnZero) → fgbioStep r n x ≡ newLead x n
     unfolding fgbioStep
     takes h (inl s) = rw (lt-numbers lnZero x h .1, s)
     takes h (inr b) = rw (lt-numbers lnZero x h .1, b, h, or-true (not (r .seen)))
 
-    taken-some : lt lnZero x ≡ true → Some (taken x n) (leads (taken x n))
+    taken-some : lt lnZero x ≡ true → Some (newLead x n) (leads (newLead x n))
     taken-some h = record { same = refl; seen = refl; above = h; place = λ _. refl }
 
     -- any other by neither, or by the first scan as the first number
@@ -105,7 +105,7 @@ module _ (xs : List Float) where
     kept-none k h =
         choice (λ r. None r start) (isNan x) r _ (λ _. k)
         (λ a. let e = is-lowest x a h in
-        choice (λ r. None r start) (not (r .seen) || lt (r .best) x) (taken x n) _
+        choice (λ r. None r start) (not (r .seen) || lt (r .best) x) (newLead x n) _
         (λ _. record { begins = refl; lowest = inr e; place = inr (inside, rw e (lowest-itself .0)) })
         (λ b. ⊎-elim (λ s. clash (sym (rw s) ∙ b) refl)
         (λ z. let t = ap (λ y. fgbioTie y (r .best)) e ∙ ap (fgbioTie lnZero) z ∙ lowest-itself .1 in
@@ -124,7 +124,7 @@ module _ (xs : List Float) where
     unfolding fgbioStep
     skips a = rw a
 
-    over : isNan x ≡ false → lt (r .best) x ≡ true → fgbioStep r n x ≡ taken x n
+    over : isNan x ≡ false → lt (r .best) x ≡ true → fgbioStep r n x ≡ newLead x n
     unfolding fgbioStep
     over a b = rw (a, b, or-true (not (r .seen)))
 
@@ -152,11 +152,11 @@ module _ (xs : List Float) where
   alike zero h = inl (record { begins = refl; lowest = inl refl; place = inl refl })
   alike (suc n) h = let r = scan fgbioStep unseen xs n in ⊎-elim (step-none n h r (leadOf xs n)) (λ k. inr (step-some n h r (leadOf xs n) k)) (alike n (omega arith))
 
-  none-called : (r : Run) (l : Lead) → None r l → l .at ≡ notMinusInfinity xs (r .at)
+  none-called : (r : Scan) (l : Lead) → None r l → l .at ≡ notMinusInfinity xs (r .at)
   unfolding notMinusInfinity
   none-called r l k = rw (k .begins) (⊎-elim (λ e. rw e) (λ p. rw (lt-ltb (r .at) 4 (p .0), p .1)) (k .place))
 
-  some-called : (r : Run) (l : Lead) → Some r l → l .at ≡ notMinusInfinity xs (r .at)
+  some-called : (r : Scan) (l : Lead) → Some r l → l .at ≡ notMinusInfinity xs (r .at)
   unfolding notMinusInfinity
   some-called r l k =
       rw (k .same)

@@ -14,12 +14,12 @@ use Rattle.float.specs.Methods.{absOf}
 use Rattle.words.proofs.Cases.{test, clash, refuted, choice, both, and-false}
 use Rattle.float.proofs.Order.{lt-asym, lt-irrefl, lt-trans, lt-numbers, le-or, not-lt-le, eq-lt}
 use Rattle.phred.specs.Phred.{lnZero}
-use Rattle.tie_rules.specs.declared.tie_rule.Run.{Run}
+use Rattle.tie_rules.specs.declared.tie_rule.Scan.{Scan}
 use Rattle.tie_rules.specs.declared.tie_rule.TieRule.{TieRule}
 use Rattle.tie_rules.specs.declared.tie_rule.TieRule.the-variants.{UlpRelative, FgbioCompat}
 use Rattle.tie_rules.proofs.Lanes.{below-all}
 use Rattle.tie_rules.specs.Lanes.{lane, noLane}
-use Rattle.tie_rules.specs.Ties.{fgbioTie, fgbioTested, tiesWith, untied, noneAbove, taken, cancelled, fgbioStep, ulpStep, scan, unseen, lowest, fgbioUniqueMaxIndex, uniqueMaxIndex, notMinusInfinity, uniqueMaxIndexWith}
+use Rattle.tie_rules.specs.Ties.{fgbioTie, fgbioTested, tiesWith, untied, noneAbove, newLead, cancelled, fgbioStep, ulpStep, scan, unseen, lowest, fgbioUniqueMaxIndex, uniqueMaxIndex, notMinusInfinity, uniqueMaxIndexWith}
 
 -- ---- a NaN, and a value above the running maximum
 
@@ -57,7 +57,7 @@ one-more : (P : ℕ → Type 0) (n : ℕ) → P n → ((j : ℕ) → j < n → P
 one-more P n p f j h = elim (eq-or-lt-of-le (le-of-suc-le-suc h)) [ inl e ↦ subst P (sym e) p | inr l ↦ f j l ]
 
 -- what each lane keeps holds of a scan
-pub scan-keeps : (step : Run → ℕ → Float → Run) (xs : List Float) (P : ℕ → Run → Type 0) → ((n : ℕ) (r : Run) → P n r → P (suc n) (step r n (lane xs n))) → (r : Run) → P 0 r → (n : ℕ) → P n (scan step r xs n)
+pub scan-keeps : (step : Scan → ℕ → Float → Scan) (xs : List Float) (P : ℕ → Scan → Type 0) → ((n : ℕ) (r : Scan) → P n r → P (suc n) (step r n (lane xs n))) → (r : Scan) → P 0 r → (n : ℕ) → P n (scan step r xs n)
 unfolding scan
 scan-keeps step xs P f r h zero = h
 scan-keeps step xs P f r h (suc n) = f n (scan step r xs n) (scan-keeps step xs P f r h n)
@@ -66,24 +66,24 @@ module _ (xs : List Float) where
   -- ---- FgbioCompat
 
   -- lane j is NaN, or was seen and is not above the maximum
-  abbrev Under : Run → ℕ → Type 0
+  abbrev Under : Scan → ℕ → Type 0
   Under r j = isNan (lane xs j) ≡ false → (r .seen ≡ true) × (lt (r .best) (lane xs j) ≡ false)
 
   -- lane j is the one at hand, or does not tie with it
-  abbrev Apart : Run → ℕ → Type 0
+  abbrev Apart : Scan → ℕ → Type 0
   Apart r j = j ≢ r .at → tiesWith FgbioCompat (r .at) (r .best) j (lane xs j) ≡ false
 
   -- what the scan knows after n lanes
-  record FgbioKnows (n : ℕ) (r : Run) : Type 0 where
+  record FgbioKnows (n : ℕ) (r : Scan) : Type 0 where
     top : (j : ℕ) → j < n → Under r j
     place : r .at < 4 → (r .at < n) × (r .best ≡ lane xs (r .at))
     apart : r .at < 4 → (j : ℕ) → j < n → Apart r j
 
-  module _ (n : ℕ) (r : Run) (k : FgbioKnows n r) where
+  module _ (n : ℕ) (r : Scan) (k : FgbioKnows n r) where
     abbrev x : Float
     x = lane xs n
 
-    abbrev After : Run → Type 0
+    abbrev After : Scan → Type 0
     After = FgbioKnows (suc n)
 
     -- lane n leaves the maximum, which it is not within 2^-52 of
@@ -99,12 +99,12 @@ module _ (xs : List Float) where
     cancels u = record { top = one-more (Under r) n u (k .top); place = λ h. absurd (omega arith); apart = λ h. absurd (omega arith) }
 
     -- lane n takes over: every number before it is below it
-    takes : (not (r .seen) || lt (r .best) x) ≡ true → After (taken x n)
+    takes : (not (r .seen) || lt (r .best) x) ≡ true → After (newLead x n)
     unfolding tiesWith fgbioTested
     takes b = record {
-      top = one-more (Under (taken x n)) n (λ _. (refl, lt-irrefl x)) (λ j h m. (refl, lt-asym (lane xs j) x (lower j h m)));
+      top = one-more (Under (newLead x n)) n (λ _. (refl, lt-irrefl x)) (λ j h m. (refl, lt-asym (lane xs j) x (lower j h m)));
       place = λ h. (omega arith, refl);
-      apart = λ h. one-more (Apart (taken x n)) n (λ d. absurd (d refl))
+      apart = λ h. one-more (Apart (newLead x n)) n (λ d. absurd (d refl))
           (λ j l d. rw (le-ltb n j (omega arith))
           (test (isNan (lane xs j)) (λ m. rw (nan-earlier (lane xs j) x m) (and-false (not (lt (lane xs j) x)))) (λ m. rw (lower j l m))));
     }
@@ -116,7 +116,7 @@ module _ (xs : List Float) where
     unfolding fgbioStep
     fgbio-step =
         choice After (isNan x) r _ (λ a. stays (λ m. clash m a) (nan-later x (r .best) a))
-        (λ _. choice After (not (r .seen) || lt (r .best) x) (taken x n) _ takes
+        (λ _. choice After (not (r .seen) || lt (r .best) x) (newLead x n) _ takes
         (λ b. choice After (fgbioTie x (r .best)) (cancelled r) r (λ _. cancels (λ _. left (r .seen) (lt (r .best) x) b)) (stays (λ _. left (r .seen) (lt (r .best) x) b))))
       where
         left : (s l : Bool) → (not s || l) ≡ false → (s ≡ true) × (l ≡ false)
@@ -131,14 +131,14 @@ module _ (xs : List Float) where
   -- ---- UlpRelative
 
   -- no lane so far is above the maximum, which the lane at hand holds
-  record UlpKnows (n : ℕ) (r : Run) : Type 0 where
+  record UlpKnows (n : ℕ) (r : Scan) : Type 0 where
     top : (j : ℕ) → j < n → lt (r .best) (lane xs j) ≡ false
     place : r .at < 4 → r .best ≡ lane xs (r .at)
 
-  ulp-step : (n : ℕ) (r : Run) → UlpKnows n r → UlpKnows (suc n) (ulpStep r n (lane xs n))
+  ulp-step : (n : ℕ) (r : Scan) → UlpKnows n r → UlpKnows (suc n) (ulpStep r n (lane xs n))
   unfolding ulpStep
   ulp-step n r k =
-      choice (UlpKnows (suc n)) (lt (r .best) x) (taken x n) r
+      choice (UlpKnows (suc n)) (lt (r .best) x) (newLead x n) r
       (λ b. record { top = one-more (λ j. lt x (lane xs j) ≡ false) n (lt-irrefl x) (λ j h. still x (r .best) (lane xs j) b (k .top j h)); place = λ h. refl })
       (λ b. record { top = one-more (λ j. lt (r .best) (lane xs j) ≡ false) n b (k .top); place = k .place })
     where
@@ -154,7 +154,7 @@ module _ (xs : List Float) where
   abbrev Stands : TieRule → ℕ → Type 0
   Stands rule i = (untied rule xs i (lane xs i) ≡ true) × (noneAbove xs (lane xs i) ≡ true)
 
-  fgbio-stands : (r : Run) → FgbioKnows 4 r → r .at < 4 → Stands FgbioCompat (r .at)
+  fgbio-stands : (r : Scan) → FgbioKnows 4 r → r .at < 4 → Stands FgbioCompat (r .at)
   unfolding untied noneAbove
   fgbio-stands r k h =
       let e = k .place h .1 in (
@@ -162,7 +162,7 @@ module _ (xs : List Float) where
         below-all 4 _ (λ (j : ℕ) (l : j < 4). rw (← e, test (isNan (lane xs j)) (nan-above (lane xs j) (r .best)) (λ m. k .top j l m .1))),
       )
 
-  ulp-stands : (r : Run) → UlpKnows 4 r → r .at < 4 → (finite (r .best) && untied UlpRelative xs (r .at) (r .best)) ≡ true → (finite (lane xs (r .at)) ≡ true) × Stands UlpRelative (r .at)
+  ulp-stands : (r : Scan) → UlpKnows 4 r → r .at < 4 → (finite (r .best) && untied UlpRelative xs (r .at) (r .best)) ≡ true → (finite (lane xs (r .at)) ≡ true) × Stands UlpRelative (r .at)
   unfolding noneAbove
   ulp-stands r k h t =
       let e = k .place h in

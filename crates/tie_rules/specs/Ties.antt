@@ -5,11 +5,11 @@ use mathlib.Core.List.{List}
 use lib.Dec.{leb, ltb, eqb}
 use lib.Ieee.{Float, binary64, toBits, lt, le, eq, isNan}
 use lib.Ieee.Scale.{finite}
-use Rattle.float.specs.Ops.{_⊖_, bits, nought}
+use Rattle.float.specs.Ops.{_⊖_, bits, plusZero}
 use Rattle.words.specs.Choice.{if_then_else_}
 use Rattle.float.specs.Methods.{absOf}
 use Rattle.phred.specs.Phred.{lnZero}
-use Rattle.tie_rules.specs.declared.tie_rule.Run.{Run}
+use Rattle.tie_rules.specs.declared.tie_rule.Scan.{Scan}
 use Rattle.tie_rules.specs.declared.tie_rule.TieRule.{TieRule}
 use Rattle.tie_rules.specs.declared.tie_rule.TieRule.the-variants.{UlpRelative, FgbioCompat}
 use Rattle.tie_rules.specs.Lanes.{lane, noLane}
@@ -61,39 +61,39 @@ noneAbove xs m = allBelow 4 (λ j. not (lt m (lane xs j)))
 -- ---- the scan from lane to lane: whether a lane was taken, the running maximum, and its lane
 
 -- lane k, of the value x, takes over
-abbrev pub taken : Float → ℕ → Run
-taken x k = record { seen = true; best = x; at = k }
+abbrev pub newLead : Float → ℕ → Scan
+newLead x k = record { seen = true; best = x; at = k }
 
 -- the running maximum stays, and is cancelled
-abbrev pub cancelled : Run → Run
+abbrev pub cancelled : Scan → Scan
 cancelled r = record { seen = r .seen; best = r .best; at = noLane }
 
 -- One lane under FgbioCompat: a NaN is skipped; the first, and any above the running maximum, takes over, also after a cancellation; any other that
 -- ties with it cancels it.
-unfoldable pub fgbioStep : Run → ℕ → Float → Run
+unfoldable pub fgbioStep : Scan → ℕ → Float → Scan
 fgbioStep r k x =
     if isNan x then r
-    else if not (r .seen) || lt (r .best) x then taken x k
+    else if not (r .seen) || lt (r .best) x then newLead x k
     else if fgbioTie x (r .best) then cancelled r
     else r
 
 -- one lane under UlpRelative: any above the running maximum takes over
-unfoldable pub ulpStep : Run → ℕ → Float → Run
+unfoldable pub ulpStep : Scan → ℕ → Float → Scan
 ulpStep r k x =
-    if lt (r .best) x then taken x k
+    if lt (r .best) x then newLead x k
     else r
 
 -- the first n lanes
-unfoldable pub scan : (Run → ℕ → Float → Run) → Run → List Float → ℕ → Run
+unfoldable pub scan : (Scan → ℕ → Float → Scan) → Scan → List Float → ℕ → Scan
 scan step r xs zero = r
 scan step r xs (suc n) = step (scan step r xs n) n (lane xs n)
 
 -- before the first lane under FgbioCompat: none was taken, so that the maximum is not asked
-abbrev pub unseen : Run
-unseen = record { seen = false; best = nought; at = noLane }
+abbrev pub unseen : Scan
+unseen = record { seen = false; best = plusZero; at = noLane }
 
 -- before the first lane under UlpRelative: a maximum of -infinity
-abbrev pub lowest : Run
+abbrev pub lowest : Scan
 lowest = record { seen = false; best = lnZero; at = noLane }
 
 -- ---- the lane that a rule names

@@ -29,7 +29,7 @@ pub fn rule_of(n: u8) -> TieRule
 }
 
 // A scan of the lanes: whether one was taken, the running maximum, and its lane.
-pub struct Run {
+pub struct Scan {
     pub seen: bool,
     pub best: f64,
     pub at: usize,
@@ -70,28 +70,28 @@ fn near_patterns(a: u64, b: u64) -> bool
 }
 
 // One lane of fgbio's scan.
-fn fgbio_step(run: Run, k: usize, x: f64) -> Run
+fn fgbio_step(run: Scan, k: usize, x: f64) -> Scan
     ensures { λ r. ⌜ r ≡ fgbioStep run k x ⌝ }
 {
     if float::is_nan(x) {
         return run;
     }
     if !run.seen {
-        return Run {
+        return Scan {
             seen: true,
             best: x,
             at: k,
         };
     }
     if run.best < x {
-        return Run {
+        return Scan {
             seen: true,
             best: x,
             at: k,
         };
     }
     if fgbio_tie(x, run.best) {
-        return Run {
+        return Scan {
             seen: run.seen,
             best: run.best,
             at: NO_LANE,
@@ -101,11 +101,11 @@ fn fgbio_step(run: Run, k: usize, x: f64) -> Run
 }
 
 // One lane of the search for the maximum.
-fn ulp_step(run: Run, k: usize, x: f64) -> Run
+fn ulp_step(run: Scan, k: usize, x: f64) -> Scan
     ensures { λ r. ⌜ r ≡ ulpStep run k x ⌝ }
 {
     if run.best < x {
-        return Run {
+        return Scan {
             seen: true,
             best: x,
             at: k,
@@ -114,10 +114,10 @@ fn ulp_step(run: Run, k: usize, x: f64) -> Run
     run
 }
 
-pub fn fgbio_scan(likelihoods: [f64; 4]) -> Run
+pub fn fgbio_scan(likelihoods: [f64; 4]) -> Scan
     ensures { λ r. ⌜ r ≡ scan fgbioStep unseen likelihoods 4 ⌝ }
 {
-    let mut run = Run {
+    let mut run = Scan {
         seen: false,
         best: 0.0,
         at: NO_LANE,
@@ -130,10 +130,10 @@ pub fn fgbio_scan(likelihoods: [f64; 4]) -> Run
     run
 }
 
-fn ulp_scan(likelihoods: [f64; 4]) -> Run
+fn ulp_scan(likelihoods: [f64; 4]) -> Scan
     ensures { λ r. ⌜ r ≡ scan ulpStep lowest likelihoods 4 ⌝ }
 {
-    let mut run = Run {
+    let mut run = Scan {
         seen: false,
         best: -1.0 / 0.0,
         at: NO_LANE,

@@ -4,7 +4,7 @@ use mathlib.Core.List.{List, [], _∷_}
 use lib.Dec.{ltb}
 use lib.Ieee.{Float, nan}
 use lib.ListN.{getD, replicate}
-use Rattle.float.specs.Ops.{nought}
+use Rattle.float.specs.Ops.{plusZero}
 use Rattle.words.specs.Choice.{if_then_else_}
 use Rattle.tie_rules.specs.declared.tie_rule.TieRule.{TieRule}
 use Rattle.tie_rules.specs.Lanes.{lanes, lane, noLane, laneOfByte, baseOf}
@@ -16,7 +16,7 @@ use Rattle.umi_column.specs.Dna.{isDnaBase}
 
 -- before the first byte
 unfoldable pub noSums : LaneSums
-noSums = record { likelihoods = replicate 4 nought; compensations = replicate 4 nought }
+noSums = record { likelihoods = replicate 4 plusZero; compensations = replicate 4 plusZero }
 
 -- the one logarithm amid the other: from place 3 - k on stand the values of the four lanes where lane k was observed
 unfoldable pub windowOf : Float → Float → List Float

@@ -14,7 +14,7 @@ use lib.Ieee.Exact.{HasValue}
 use lib.Ieee.Positive.{den, den-pos}
 use lib.Ieee.Scale.{finite}
 use borrow.Author.Tests.{ltb-false}
-use Rattle.float.specs.Ops.{_⊖_, bits, nought, one}
+use Rattle.float.specs.Ops.{_⊖_, bits, plusZero, one}
 use Rattle.words.proofs.Cases.{test, clash, both}
 use Rattle.float.proofs.Order.{lt-trans, lt-le, le-le, le-numbers, le-not-lt, not-lt-le}
 use Rattle.float.proofs.Gap.{gap-lt}
@@ -55,18 +55,18 @@ module _ (e : ℕ) (fine : Fine e) where
   unfolding neg ofBits
   lowest-value = (refl, omega arith)
 
-  zero-value : HasValue nought false 0 (unit e)
+  zero-value : HasValue plusZero false 0 (unit e)
   unfolding ofBits
   zero-value = (refl, omega arith)
 
-  placed : (x : Float) (s : Bool) (a : ℕ) → HasValue x s a (unit e) → le lowest x ≡ true → le x nought ≡ true → Placed e x
+  placed : (x : Float) (s : Bool) (a : ℕ) → HasValue x s a (unit e) → le lowest x ≡ true → le x plusZero ≡ true → Placed e x
   placed x true a v h k =
       test (ltb (32 * unit e) a)
       (λ t. clash (le-not-lt lowest x h) (lt-is (unit e) unit-some x lowest true true a (32 * unit e) v lowest-value ∙ t))
       (λ t. let l = ltb-false (32 * unit e) a t in (base e - a, a, under a v (omega arith), omega arith, omega arith))
   placed x false a v h k =
       test (ltb 0 a)
-      (λ t. clash (le-not-lt x nought k) (lt-is (unit e) unit-some nought x false false 0 a zero-value v ∙ t))
+      (λ t. clash (le-not-lt x plusZero k) (lt-is (unit e) unit-some plusZero x false false 0 a zero-value v ∙ t))
       (λ t. let l = ltb-false 0 a t in (base e, 0, over a v (omega arith), omega arith, omega arith))
 
   one-at : At e one (base e + unit e)
@@ -154,7 +154,7 @@ held-is : (m h w d : ℕ) → m * (4096 * (h * (w * d))) ≡ m * (4096 * (h * w)
 held-is m h w d = omega arith
 
 -- what lies from -32 to 0 is finite, and a whole number of units
-held : (x : Float) → le lowest x ≡ true → le x nought ≡ true → (w : ℕ) → (s : Bool) × (a : ℕ) × HasValue x s a (unit (2 ^ 1062 * (w * den x)))
+held : (x : Float) → le lowest x ≡ true → le x plusZero ≡ true → (w : ℕ) → (s : Bool) × (a : ℕ) × HasValue x s a (unit (2 ^ 1062 * (w * den x)))
 unfolding le lt eq neg ofBits
 held nan h k w = clash refl h
 held (inf true) h k w = clash refl h
@@ -177,13 +177,13 @@ far-lt z h = test (lt epsilon z) (λ t. t) (λ t. clash two-above (le-le two z e
 pub named-by-counts : NamedByCounts
 unfolding apart
 named-by-counts correct error h column short i inside leads =
-    let (ab, c) = both (le lowest error && le correct nought) (le two (correct ⊖ error)) h in
-    let (a, b) = both (le lowest error) (le correct nought) ab in
+    let (ab, c) = both (le lowest error && le correct plusZero) (le two (correct ⊖ error)) h in
+    let (a, b) = both (le lowest error) (le correct plusZero) ab in
     let l = lt-le error correct (gap-lt correct error (far-lt (correct ⊖ error) c)) in
     let e = 2 ^ 1062 * (den error * den correct) in
     let fine = fine-scale (den error * den correct) (mul-pos (den-pos error) (den-pos correct)) in
     let low = le-le lowest error correct a l in
-    let high = le-le error correct nought l b in
+    let high = le-le error correct plusZero l b in
     let (s, x, sx) = held correct low b (den error) in
     let (t, y, ty) = held error a high (den correct) in
     let (u, p, ca, ci, cm) = placed e fine correct s x sx low b in

@@ -7,7 +7,7 @@ use lib.Dec.{ltb, eqb}
 use lib.ListN.{length, getD}
 use lib.Ieee.{Float, nan, ofBits}
 use borrow.Author.Tests.{ltb-true, ltb-false, ne-eqb}
-use Rattle.float.specs.Ops.{nought}
+use Rattle.float.specs.Ops.{plusZero}
 use Rattle.words.specs.Choice.{if_then_else_}
 use Rattle.words.proofs.Cases.{test}
 use Rattle.tie_rules.specs.Lanes.{lanes, lane, noLane, laneOfByte}
@@ -102,7 +102,7 @@ same {e} {f} {f'} {n} {n'} {s} {s'} p q r h =
 -- before the first byte
 start : (e i : ℕ) → i < 4 → Stands e (sumAt noSums i) 0 0
 unfolding noSums ofBits
-start e i h = same {s = record { lane = nought; compensation = nought }} (at-first i h) refl refl record {
+start e i h = same {s = record { lane = plusZero; compensation = plusZero }} (at-first i h) refl refl record {
   place = base e;
   lane-at = over 0 (refl, omega arith) (omega arith);
   lane-near = omega arith;
@@ -111,7 +111,7 @@ start e i h = same {s = record { lane = nought; compensation = nought }} (at-fir
   error-small = omega arith;
 }
   where
-    at-first : (i : ℕ) → i < 4 → record { lane = nought; compensation = nought } ≡ sumAt noSums i
+    at-first : (i : ℕ) → i < 4 → record { lane = plusZero; compensation = plusZero } ≡ sumAt noSums i
     at-first zero h = refl
     at-first (suc zero) h = refl
     at-first (suc (suc zero)) h = refl

@@ -9,7 +9,7 @@ use Rattle.rate_tables.specs.declared.adjusted.AdjustedProbabilityTables.{Adjus
 use Rattle.rate_tables.specs.Adjusted.{adjustedTables}
 use Rattle.gap_tables.specs.declared.gaps.UnanimousGapTables.{UnanimousGapTables}
 use Rattle.gap_tables.specs.Gaps.{gapTables}
-use Rattle.lent_bytes.specs.Buffer.{replied, written}
+use Rattle.lent_bytes.specs.Buffer.{lengthWritten, written}
 use Rattle.export_tables.specs.Tables.{numberByte, tableByte, tableBytes, overwritten}
 use Rattle.export_tables.proofs.Overwritten.{over-written, over-short}
 use Rattle.export_tables.proofs.tables.Statement.{statement}
@@ -19,7 +19,7 @@ use Rattle.export_tables.proofs.tables.Tie as tie
 all-written : (pre post : ℕ) (a : AdjustedProbabilityTables) (g : UnanimousGapTables) (out after : List ℕ)
     → a ≡ adjustedTables post → g ≡ gapTables pre → 3016 ≤ length out
     → after ≡ overwritten (numberByte (a .correct) (a .«error_per_alt») (g .thresholds) (g .«cerr_min») (g .cap)) 3016 out
-    → (3016 ≡ replied (tableBytes pre post) out) × (after ≡ written (tableBytes pre post) out)
+    → (3016 ≡ lengthWritten (tableBytes pre post) out) × (after ≡ written (tableBytes pre post) out)
 unfolding tableBytes
 all-written pre post a g out after e k h w = let o = over-written (tableByte pre post) 3016 out h in (o .0, rw (e, k) at w ∙ o .1)
 

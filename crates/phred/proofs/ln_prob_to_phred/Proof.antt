@@ -18,14 +18,14 @@ returns-2 c = rw (c .before .before .if1 .left, ← c .before .is-nan .ensures, 
 floor-to-u64-requires : tie.Need-floor-to-u64-requires
 floor-to-u64-requires c κs = search needs
 
-hold-requires : tie.Need-hold-requires
-hold-requires c κs = search needs
+clamp-requires : tie.Need-clamp-requires
+clamp-requires c κs = search needs
 
 returns-3 : tie.Need-returns-3
 unfolding lnProbToPhred
-returns-3 c = rw (c .before .before .before .before .if1 .left, ← c .before .before .before .is-nan .ensures, c .before .before .if2 .left, ← c .before .floor-to-u64 .ensures) (c .hold .ensures)
+returns-3 c = rw (c .before .before .before .before .if1 .left, ← c .before .before .before .is-nan .ensures, c .before .before .if2 .left, ← c .before .floor-to-u64 .ensures) (c .clamp .ensures)
 
 pub ln-prob-to-phred-spec : {M : Type 1} → statement M
 ln-prob-to-phred-spec =
     tie.close
-    (tie.spec returns is-nan-requires returns-2 floor-to-u64-requires hold-requires returns-3)
+    (tie.spec returns is-nan-requires returns-2 floor-to-u64-requires clamp-requires returns-3)

@@ -16,14 +16,14 @@ returns c = rw (← c .before .all-ln-zero .ensures, c .if1 .taken)
 start-lane-requires : tie.Need-start-lane-requires
 start-lane-requires c κs = search needs
 
-sum-from-requires : tie.Need-sum-from-requires
-sum-from-requires c κs = rw (c .start-lane .ensures) (start-inside _ (sym (c .before .before .all-ln-zero .ensures) ∙ c .before .if1 .left))
+ln-sum-exp-from-requires : tie.Need-ln-sum-exp-from-requires
+ln-sum-exp-from-requires c κs = rw (c .start-lane .ensures) (start-inside _ (sym (c .before .before .all-ln-zero .ensures) ∙ c .before .if1 .left))
 
 returns-2 : tie.Need-returns-2
 unfolding lnSumExpArray
-returns-2 c = rw (← c .before .before .before .all-ln-zero .ensures, c .before .before .if1 .left, ← c .before .start-lane .ensures) (c .sum-from .ensures)
+returns-2 c = rw (← c .before .before .before .all-ln-zero .ensures, c .before .before .if1 .left, ← c .before .start-lane .ensures) (c .ln-sum-exp-from .ensures)
 
 pub ln-sum-exp-array-spec : {M : Type 1} → statement M
 ln-sum-exp-array-spec =
     tie.close
-    (tie.spec all-ln-zero-requires returns start-lane-requires sum-from-requires returns-2)
+    (tie.spec all-ln-zero-requires returns start-lane-requires ln-sum-exp-from-requires returns-2)

@@ -1,6 +1,6 @@
 -- `kept`: its own rule put in again. Assumes nothing.
 use borrow.Author.Needs.{needs}
-use Rattle.base_builder.specs.Builder.{withRule}
+use Rattle.base_builder.specs.Builder.{withTieRule}
 use Rattle.base_builder.proofs.builder.kept.Statement.{statement}
 use Rattle.base_builder.proofs.builder.kept.Tie as tie
 
@@ -8,7 +8,7 @@ with-tie-rule-requires : tie.Need-with-tie-rule-requires
 with-tie-rule-requires c κs = search needs
 
 returns : tie.Need-returns
-unfolding withRule
+unfolding withTieRule
 returns c = c .with-tie-rule .ensures
 
 pub kept-spec : {M : Type 1} → statement M

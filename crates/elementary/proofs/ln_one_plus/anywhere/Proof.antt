@@ -1,7 +1,7 @@
 use mathlib.Core.Path.{_≡_, ap, _∙_}
 use mathlib.Core.Bool.{true}
 use lib.Ieee.{eq}
-use Rattle.float.specs.Ops.{nought}
+use Rattle.float.specs.Ops.{plusZero}
 use Rattle.elementary.specs.declared.ln_one_plus.Parts.{Parts}
 use Rattle.elementary.specs.LnOnePlus.{joinedOf}
 use Rattle.elementary.proofs.Numbers.{zero-equal}
@@ -10,7 +10,7 @@ use Rattle.elementary.proofs.ln_one_plus.anywhere.Statement.{statement}
 use Rattle.elementary.proofs.ln_one_plus.anywhere.Tie as tie
 
 -- where k is 0, c does not count
-without-c : (t : Parts) → eq (t .k) nought ≡ true → joinedOf (record { f = t .f; k = nought; c = nought }) ≡ joinedOf t
+without-c : (t : Parts) → eq (t .k) plusZero ≡ true → joinedOf (record { f = t .f; k = plusZero; c = plusZero }) ≡ joinedOf t
 unfolding joinedOf
 without-c t h = rw (zero-equal, h)
 

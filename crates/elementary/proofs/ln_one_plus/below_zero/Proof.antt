@@ -1,7 +1,7 @@
 use mathlib.Core.Path.{_≡_, refl}
 use mathlib.Core.Bool.{true}
 use lib.Ieee.{lt, ofBits}
-use Rattle.float.specs.Ops.{bits, nought}
+use Rattle.float.specs.Ops.{bits, plusZero}
 use Rattle.float.specs.Methods.{betweenOf}
 use Rattle.float.proofs.Order.{lt-numbers, lt-trans}
 use Rattle.elementary.specs.LnOnePlus.{numberOf}
@@ -10,11 +10,11 @@ use borrow.Author.Needs.{needs}
 use Rattle.elementary.proofs.ln_one_plus.below_zero.Statement.{statement}
 use Rattle.elementary.proofs.ln_one_plus.below_zero.Tie as tie
 
-high-above-0 : lt nought (bits 0x3fda_827a_0000_0000) ≡ true
+high-above-0 : lt plusZero (bits 0x3fda_827a_0000_0000) ≡ true
 unfolding lt ofBits
 high-above-0 = refl
 
-tiny-above-0 : lt nought (bits 0x3e20_0000_0000_0000) ≡ true
+tiny-above-0 : lt plusZero (bits 0x3e20_0000_0000_0000) ≡ true
 unfolding lt ofBits
 tiny-above-0 = refl
 
@@ -23,7 +23,7 @@ unfolding numberOf betweenOf
 returns c =
     let t = c .before .if1 .taken in
     let n = below-0 _ (lt-numbers _ _ t .1) (c .before .before .pre) in
-    rw (t, lt-trans _ nought _ n high-above-0, c .if2 .taken, lt-trans _ nought _ n tiny-above-0)
+    rw (t, lt-trans _ plusZero _ n high-above-0, c .if2 .taken, lt-trans _ plusZero _ n tiny-above-0)
 
 near-requires : tie.Need-near-requires
 near-requires c κs = search needs
@@ -33,7 +33,7 @@ unfolding numberOf betweenOf
 returns-2 c =
     let t = c .before .before .if1 .taken in
     let n = below-0 _ (lt-numbers _ _ t .1) (c .before .before .before .pre) in
-    rw (t, lt-trans _ nought _ n high-above-0, c .before .if2 .left) (c .near .ensures)
+    rw (t, lt-trans _ plusZero _ n high-above-0, c .before .if2 .left) (c .near .ensures)
 
 anywhere-requires : tie.Need-anywhere-requires
 anywhere-requires c κs = lt-numbers _ _ (c .if3 .taken) .1

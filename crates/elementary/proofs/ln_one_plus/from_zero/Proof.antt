@@ -1,7 +1,7 @@
 use mathlib.Core.Path.{_≡_, refl}
 use mathlib.Core.Bool.{true, false}
 use lib.Ieee.{lt, eq, neg, ofBits}
-use Rattle.float.specs.Ops.{bits, nought, one}
+use Rattle.float.specs.Ops.{bits, plusZero, one}
 use Rattle.float.specs.Methods.{betweenOf}
 use Rattle.float.proofs.Order.{le-numbers}
 use Rattle.elementary.specs.LnOnePlus.{numberOf}
@@ -10,15 +10,15 @@ use borrow.Author.Needs.{needs}
 use Rattle.elementary.proofs.ln_one_plus.from_zero.Statement.{statement}
 use Rattle.elementary.proofs.ln_one_plus.from_zero.Tie as tie
 
-low-below-0 : lt (bits 0xbfd2_bec4_0000_0000) nought ≡ true
+low-below-0 : lt (bits 0xbfd2_bec4_0000_0000) plusZero ≡ true
 unfolding lt ofBits
 low-below-0 = refl
 
-minus-tiny-below-0 : lt (neg (bits 0x3e20_0000_0000_0000)) nought ≡ true
+minus-tiny-below-0 : lt (neg (bits 0x3e20_0000_0000_0000)) plusZero ≡ true
 unfolding lt neg ofBits
 minus-tiny-below-0 = refl
 
-one-not-0 : eq one nought ≡ false
+one-not-0 : eq one plusZero ≡ false
 unfolding eq ofBits
 one-not-0 = refl
 
@@ -26,7 +26,7 @@ returns : tie.Need-returns
 unfolding numberOf betweenOf
 returns c =
     let s = c .before .before in
-    rw (lt-le-lt _ nought _ low-below-0 (s .pre), c .before .if1 .taken, lt-le-lt _ nought _ minus-tiny-below-0 (s .pre), c .if2 .taken)
+    rw (lt-le-lt _ plusZero _ low-below-0 (s .pre), c .before .if1 .taken, lt-le-lt _ plusZero _ minus-tiny-below-0 (s .pre), c .if2 .taken)
 
 near-requires : tie.Need-near-requires
 near-requires c κs = search needs
@@ -35,25 +35,25 @@ returns-2 : tie.Need-returns-2
 unfolding numberOf betweenOf
 returns-2 c =
     let s = c .before .before .before in
-    rw (lt-le-lt _ nought _ low-below-0 (s .pre), c .before .before .if1 .taken, lt-le-lt _ nought _ minus-tiny-below-0 (s .pre), c .before .if2 .left) (c .near .ensures)
+    rw (lt-le-lt _ plusZero _ low-below-0 (s .pre), c .before .before .if1 .taken, lt-le-lt _ plusZero _ minus-tiny-below-0 (s .pre), c .before .if2 .left) (c .near .ensures)
 
 far-requires : tie.Need-far-requires
 far-requires c κs = one-not-0
 
 returns-3 : tie.Need-returns-3
 unfolding numberOf
-returns-3 c = rw (lt-le-lt _ nought _ low-below-0 (c .before .before .before .pre), c .before .before .if1 .left, c .before .if3 .taken) (c .far .ensures)
+returns-3 c = rw (lt-le-lt _ plusZero _ low-below-0 (c .before .before .before .pre), c .before .before .if1 .left, c .before .if3 .taken) (c .far .ensures)
 
 returns-4 : tie.Need-returns-4
 unfolding numberOf
-returns-4 c = rw (lt-le-lt _ nought _ low-below-0 (c .before .before .before .pre), c .before .before .if1 .left, c .before .if3 .left, c .if4 .taken)
+returns-4 c = rw (lt-le-lt _ plusZero _ low-below-0 (c .before .before .before .pre), c .before .before .if1 .left, c .before .if3 .left, c .if4 .taken)
 
 anywhere-requires : tie.Need-anywhere-requires
-anywhere-requires c κs = le-numbers nought _ (c .before .before .before .pre) .1
+anywhere-requires c κs = le-numbers plusZero _ (c .before .before .before .pre) .1
 
 returns-5 : tie.Need-returns-5
 unfolding numberOf
-returns-5 c = rw (lt-le-lt _ nought _ low-below-0 (c .before .before .before .before .pre), c .before .before .before .if1 .left, c .before .before .if3 .left, c .before .if4 .left) (c .anywhere .ensures)
+returns-5 c = rw (lt-le-lt _ plusZero _ low-below-0 (c .before .before .before .before .pre), c .before .before .before .if1 .left, c .before .before .if3 .left, c .before .if4 .left) (c .anywhere .ensures)
 
 pub from-zero-spec : {M : Type 1} → statement M
 from-zero-spec =

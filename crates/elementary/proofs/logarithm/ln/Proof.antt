@@ -2,7 +2,7 @@ use mathlib.Core.Path.{_≡_, refl}
 use mathlib.Core.Bool.{true, false}
 use mathlib.Core.Logic.{⊎-elim}
 use lib.Ieee.{Float, lt, le, eq, neg, isNan, ofBits}
-use Rattle.float.specs.Ops.{_⊗_, _⊘_, bits, nought, one}
+use Rattle.float.specs.Ops.{_⊗_, _⊘_, bits, plusZero, one}
 use Rattle.words.specs.Choice.{if_then_else_}
 use Rattle.words.proofs.Cases.{and-false}
 use Rattle.float.proofs.Order.{lt-numbers, le-numbers, lt-trans, lt-le, lt-not-le, not-lt-le}
@@ -45,9 +45,9 @@ from-below-one x n h = not-lt-le x below-one n below-one-number h
 abbrev edgeOf : Float → Float
 edgeOf x =
     if lt largest x then x
-    else if lt nought x then normalOf (x ⊗ bits 0x4330_0000_0000_0000) (bits 0x4090_cc00_0000_0000)
-    else if eq x nought then neg one ⊘ nought
-    else nought ⊘ nought
+    else if lt plusZero x then normalOf (x ⊗ bits 0x4330_0000_0000_0000) (bits 0x4090_cc00_0000_0000)
+    else if eq x plusZero then neg one ⊘ plusZero
+    else plusZero ⊘ plusZero
 
 below-normal : (x : Float) → lt x below-one ≡ true → le least x ≡ false → lnOf x ≡ edgeOf x
 unfolding lnOf
@@ -93,7 +93,7 @@ returns-4 c =
 
 normal-requires-3 : tie.Need-normal-requires-3
 unfolding ofBits
-normal-requires-3 c κs = not-nan-mul _ _ tt (lt-numbers nought _ (c .if6 .taken) .1)
+normal-requires-3 c κs = not-nan-mul _ _ tt (lt-numbers plusZero _ (c .if6 .taken) .1)
 
 returns-5 : tie.Need-returns-5
 returns-5 c =

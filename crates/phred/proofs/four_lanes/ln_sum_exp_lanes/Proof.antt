@@ -5,7 +5,7 @@ use lib.ListN.{length, getD}
 use lib.Ieee.{nan}
 use Rattle.phred.proofs.FourLanes.{four-lanes, four-of}
 use Rattle.phred.specs.Phred.{lnSumExpArray}
-use Rattle.phred.specs.FourLanes.{sumOfLanes}
+use Rattle.phred.specs.FourLanes.{lnSumExpLanes}
 use Rattle.phred.proofs.four_lanes.ln_sum_exp_lanes.Statement.{statement}
 use Rattle.phred.proofs.four_lanes.ln_sum_exp_lanes.Tie as tie
 
@@ -27,26 +27,26 @@ first-two-requires c κs = search needs
 first-three-requires : tie.Need-first-three-requires
 first-three-requires c κs = search needs
 
-sum-of-four-requires : tie.Need-sum-of-four-requires
-sum-of-four-requires c κs = search needs
+ln-sum-exp-four-requires : tie.Need-ln-sum-exp-four-requires
+ln-sum-exp-four-requires c κs = search needs
 
 returns : tie.Need-returns
-unfolding sumOfLanes
+unfolding lnSumExpLanes
 returns c =
     let xs = c .before .before .before .before .before .args .t1 in
     let n : length xs ≡ 4 = search needs in
-    let r : c .sum-of-four .result ≡ sumOfLanes (getD xs 0 nan) (getD xs 1 nan) (getD xs 2 nan) (getD xs 3 nan) = rw (← c .before .before .before .before .first-two .ensures, ← c .before .before .before .first-three .ensures, c .before .if1 .taken) (c .sum-of-four .ensures) in
+    let r : c .ln-sum-exp-four .result ≡ lnSumExpLanes (getD xs 0 nan) (getD xs 1 nan) (getD xs 2 nan) (getD xs 3 nan) = rw (← c .before .before .before .before .first-two .ensures, ← c .before .before .before .first-three .ensures, c .before .if1 .taken) (c .ln-sum-exp-four .ensures) in
     r ∙ four-lanes _ _ _ _ ∙ sym (ap lnSumExpArray (four-of xs n))
 
-sum-of-four-requires-2 : tie.Need-sum-of-four-requires-2
-sum-of-four-requires-2 c κs = search needs
+ln-sum-exp-four-requires-2 : tie.Need-ln-sum-exp-four-requires-2
+ln-sum-exp-four-requires-2 c κs = search needs
 
 returns-2 : tie.Need-returns-2
-unfolding sumOfLanes
+unfolding lnSumExpLanes
 returns-2 c =
     let xs = c .before .before .before .before .before .args .t1 in
     let n : length xs ≡ 4 = search needs in
-    let r : c .sum-of-four2 .result ≡ sumOfLanes (getD xs 0 nan) (getD xs 1 nan) (getD xs 2 nan) (getD xs 3 nan) = rw (← c .before .before .before .before .first-two .ensures, ← c .before .before .before .first-three .ensures, c .before .if1 .left) (c .sum-of-four2 .ensures) in
+    let r : c .ln-sum-exp-four2 .result ≡ lnSumExpLanes (getD xs 0 nan) (getD xs 1 nan) (getD xs 2 nan) (getD xs 3 nan) = rw (← c .before .before .before .before .first-two .ensures, ← c .before .before .before .first-three .ensures, c .before .if1 .left) (c .ln-sum-exp-four2 .ensures) in
     r ∙ four-lanes _ _ _ _ ∙ sym (ap lnSumExpArray (four-of xs n))
 
 pub ln-sum-exp-lanes-spec : {M : Type 1} → statement M
@@ -59,7 +59,7 @@ ln-sum-exp-lanes-spec =
     array-read-d
     first-two-requires
     first-three-requires
-    sum-of-four-requires
+    ln-sum-exp-four-requires
     returns
-    sum-of-four-requires-2
+    ln-sum-exp-four-requires-2
     returns-2)

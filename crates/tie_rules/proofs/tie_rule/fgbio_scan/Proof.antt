@@ -4,7 +4,7 @@ use Prim.Native.Nat.{_-_, _≤_}
 use native.Mathlib.Numerals.{add-one}
 use native.Mathlib.Omega.{arith}
 use borrow.Author.Needs.{needs}
-use Rattle.tie_rules.specs.declared.tie_rule.Run.{Run}
+use Rattle.tie_rules.specs.declared.tie_rule.Scan.{Scan}
 use Rattle.tie_rules.specs.Lanes.{lane}
 use Rattle.tie_rules.specs.Ties.{fgbioStep, scan, unseen}
 use Rattle.tie_rules.proofs.tie_rule.fgbio_scan.Statement.{statement}
@@ -39,7 +39,7 @@ loop-again : tie.Need-loop-again Inv-loop μ-loop
 unfolding scan
 loop-again c =
     let l = c .before .before .loop in
-    (omega arith, rw (add-one (l .i)) (c .fgbio-step .ensures ∙ ap (λ (r : Run). fgbioStep r (l .i) (lane (c .before .before .before .args .t1) (l .i))) (l .inv .1)))
+    (omega arith, rw (add-one (l .i)) (c .fgbio-step .ensures ∙ ap (λ (r : Scan). fgbioStep r (l .i) (lane (c .before .before .before .args .t1) (l .i))) (l .inv .1)))
 
 returns : tie.Need-returns Inv-loop μ-loop
 returns c =

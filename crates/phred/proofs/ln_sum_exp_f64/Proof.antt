@@ -1,8 +1,8 @@
--- `sum_of_two`: each way through the code is a way of the definition. Assumes nothing.
+-- `ln_sum_exp_f64`: each way through the code is a way of the definition. Assumes nothing.
 use Rattle.phred.specs.Phred.{lnSumExpGeneral, lnSumExp}
 use borrow.Author.Needs.{needs}
-use Rattle.phred.proofs.sum_of_two.Statement.{statement}
-use Rattle.phred.proofs.sum_of_two.Tie as tie
+use Rattle.phred.proofs.ln_sum_exp_f64.Statement.{statement}
+use Rattle.phred.proofs.ln_sum_exp_f64.Tie as tie
 
 returns : tie.Need-returns
 unfolding lnSumExp
@@ -30,8 +30,8 @@ returns-5 : tie.Need-returns-5
 unfolding lnSumExp lnSumExpGeneral
 returns-5 c = rw (c .before .before .before .before .if1 .left, c .before .before .before .if2 .left, c .before .before .if3 .left, c .before .if4 .left, c .log1pexp2 .ensures)
 
-pub sum-of-two-spec : {M : Type 1} → statement M
-sum-of-two-spec =
+pub ln-sum-exp-f64-spec : {M : Type 1} → statement M
+ln-sum-exp-f64-spec =
     tie.close
     (tie.spec
     returns

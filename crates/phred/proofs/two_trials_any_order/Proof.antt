@@ -1,8 +1,8 @@
--- `in_either_trial`: each way through the code is a way of the definition. Assumes nothing.
+-- `two_trials_any_order`: each way through the code is a way of the definition. Assumes nothing.
 use Rattle.phred.specs.Phred.{lnErrorProbTwoTrials}
 use borrow.Author.Needs.{needs}
-use Rattle.phred.proofs.in_either_trial.Statement.{statement}
-use Rattle.phred.proofs.in_either_trial.Tie as tie
+use Rattle.phred.proofs.two_trials_any_order.Statement.{statement}
+use Rattle.phred.proofs.two_trials_any_order.Tie as tie
 
 two-trials-requires : tie.Need-two-trials-requires
 two-trials-requires c κs = search needs
@@ -18,6 +18,6 @@ returns-2 : tie.Need-returns-2
 unfolding lnErrorProbTwoTrials
 returns-2 c = rw (c .before .if1 .left) (c .two-trials2 .ensures)
 
-pub in-either-trial-spec : {M : Type 1} → statement M
-in-either-trial-spec =
+pub two-trials-any-order-spec : {M : Type 1} → statement M
+two-trials-any-order-spec =
     tie.close (tie.spec two-trials-requires returns two-trials-requires-2 returns-2)
