@@ -1,4 +1,4 @@
--- The builder of one position and its calls. Definitions only.
+-- The builder of one position and its calls.
 use Prim.Native.Nat.{ℕ, _+_, _%_, _^_, min}
 use mathlib.Core.Bool.{Bool, not, _&&_, _||_}
 use mathlib.Core.List.{List}
@@ -97,7 +97,7 @@ answerOf base b =
     else if isFull b then Refused
     else Accepted
 
--- document 01's number of an answer, 0 for one that is no refusal
+-- the number (SCOPE 7) of an answer, 0 for one that is no refusal
 abbrev pub numberOf : Answer → ℕ
 numberOf Accepted = 0
 numberOf Refused = 11

@@ -1,4 +1,4 @@
--- The call of a builder: a shortcut where one replies, and else the long calculation. Definitions only.
+-- The call of a builder: a shortcut where one replies, and else the long calculation.
 use lib.Dec.{eqb}
 use Rattle.words.specs.Choice.{if_then_else_}
 use Rattle.gap_tables.specs.declared.gaps.UnanimousGapTables.{UnanimousGapTables}

@@ -1,4 +1,4 @@
--- A builder's history: a list of its calls. Definitions only.
+-- A builder's history: a list of its calls.
 use Prim.Native.Nat.{ℕ}
 use mathlib.Core.List.{List, [], _∷_}
 use Rattle.rate_tables.specs.declared.adjusted.AdjustedProbabilityTables.{AdjustedProbabilityTables}

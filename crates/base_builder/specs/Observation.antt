@@ -1,4 +1,4 @@
--- What one observation does to one lane. Definitions only.
+-- What one observation does to one lane.
 use Prim.Native.Nat.{ℕ, _+_, _%_, _^_}
 use lib.Dec.{eqb}
 use lib.Ieee.{Float}

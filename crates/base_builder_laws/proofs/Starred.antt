@@ -1,4 +1,4 @@
--- Document 01's inputs that are marked with a star, computed in one test, at any rate and with any tables. Assumes nothing.
+-- The inputs of SCOPE 10.1, computed in one test, at any rate and with any tables. Assumes nothing.
 use Prim.Native.Nat.{ℕ}
 use lib.Dec.{T}
 use lib.Ieee.{neg, lt, le, eq, isNan, add as add', sub, mul, div, ofBits, ofInt, toBits}

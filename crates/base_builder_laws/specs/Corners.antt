@@ -1,4 +1,4 @@
--- Corners of base_builder.rs that are computed. Definitions only.
+-- Corners of base_builder.rs that are computed.
 use Prim.Native.Nat.{ℕ}
 use mathlib.Core.Bool.{Bool, Bool·beq}
 use mathlib.Core.List.{List, [], _∷_}

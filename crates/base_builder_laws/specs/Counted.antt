@@ -1,4 +1,4 @@
--- What a list of events leaves counted, and what four lanes that were moved by these observations hold. Definitions only.
+-- What a list of events leaves counted, and what four lanes that were moved by these observations hold.
 use Prim.Native.Nat.{ℕ, _+_}
 use mathlib.Core.Bool.{_||_}
 use mathlib.Core.List.{List, [], _∷_}

@@ -1,4 +1,4 @@
--- What demand 1 says of a call. Definitions only.
+-- What demand 1 says of a call.
 use Prim.Native.Nat.{ℕ}
 use mathlib.Core.Bool.{Bool, true, _&&_, _||_}
 use lib.Dec.{T, leb, eqb}

@@ -1,4 +1,4 @@
--- What demand 3 says. Definitions only.
+-- What demand 3 says.
 use mathlib.Core.Path.{_≡_}
 use mathlib.Core.List.{List}
 use Prim.Native.Nat.{ℕ, _≤_}

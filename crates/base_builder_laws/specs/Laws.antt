@@ -1,4 +1,4 @@
--- What else holds after every list of events. Definitions only.
+-- What else holds after every list of events.
 use mathlib.Core.Path.{_≡_}
 use mathlib.Core.List.{List, [], _∷_}
 use Prim.Native.Nat.{ℕ, _≤_, _<_}

@@ -1,4 +1,4 @@
--- Document 01's inputs that are marked with a star, in one list. The two on a new builder are asked at any rate and with any tables. Definitions only.
+-- The inputs of SCOPE 10.1, in one list. The two on a new builder are asked at any rate and with any tables.
 use mathlib.Core.Bool.{Bool, _&&_}
 use mathlib.Core.List.{List, [], _∷_}
 use Prim.Native.Nat.{ℕ}

@@ -1,4 +1,4 @@
--- The builder of a column of a file, and its call. Definitions only.
+-- The builder of a column of a file, and its call.
 use mathlib.Core.List.{List, map}
 use Rattle.gap_tables.specs.Gaps.{gapTables}
 use Rattle.lane_calls.specs.declared.call.Call.{Call}

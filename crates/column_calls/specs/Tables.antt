@@ -1,4 +1,4 @@
--- The same with windows, tables and a first builder that are given: what the functions that borrow them say. Definitions only.
+-- The same with windows, tables and a first builder that are given: what the functions that borrow them say.
 use Prim.Native.Nat.{ℕ, _+_}
 use mathlib.Core.List.{List, [], _∷_}
 use lib.Ieee.{Float}

@@ -1,4 +1,4 @@
--- The columns of a file called many times, for timing: what their calls add up to. Definitions only.
+-- The columns of a file called many times, for timing: what their calls add up to.
 use Prim.Native.Nat.{ℕ, _+_, _*_, _%_, _^_}
 use mathlib.Core.List.{List, [], _∷_}
 use Rattle.refusals.specs.Result.{Result, refused, accepted}

@@ -1,4 +1,4 @@
--- The column file, read off the front of a list of bytes: each section after its count. Definitions only.
+-- The column file, read off the front of a list of bytes: each section after its count.
 use Prim.Native.Nat.{ℕ}
 use mathlib.Core.List.{List}
 use Rattle.string_set.specs.Readers.{Taken, taken, next, byte, word, front, many}

@@ -1,4 +1,4 @@
--- The parts of a file by their places, and what the functions reply. Definitions only.
+-- The parts of a file by their places, and what the functions reply.
 use mathlib.Core.Path.{_≡_}
 use Prim.Native.Nat.{ℕ, zero, suc, _+_, _*_, _≤_}
 use mathlib.Core.List.{List, [], _∷_}
@@ -115,7 +115,7 @@ abbrev pub columnReadingOf : Result (List Observation) → ColumnReading
 columnReadingOf (refused r) = columnReading.Refused r
 columnReadingOf (accepted c) = columnReading.Accepted (length c)
 
--- document 01's number of a reply, 0 for one that is no refusal
+-- the number (SCOPE 7) of a reply, 0 for one that is no refusal
 abbrev pub readingNumber : Reading → ℕ
 readingNumber (reading.Refused r) = numberOf r
 readingNumber (reading.Accepted p) = 0

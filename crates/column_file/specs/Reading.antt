@@ -1,4 +1,4 @@
--- What a column file says, or the number by which it is refused. Definitions only.
+-- What a column file says, or the number by which it is refused.
 use Prim.Native.Nat.{ℕ}
 use mathlib.Core.Bool.{_&&_}
 use mathlib.Core.List.{List}

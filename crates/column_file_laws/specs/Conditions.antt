@@ -1,4 +1,4 @@
--- Conditions 1 to 4 of a file, each by itself. Definitions only.
+-- Conditions 1 to 4 of a file, each by itself.
 use mathlib.Core.Path.{_≡_}
 use mathlib.Core.Bool.{Bool, true, false, _&&_}
 use mathlib.Core.List.{List}

@@ -1,4 +1,4 @@
--- The bytes of a file, from what it says; and that reading gives both back. Definitions only.
+-- The bytes of a file, from what it says; and that reading gives both back.
 use mathlib.Core.Path.{_≡_}
 use mathlib.Core.Bool.{Bool, true}
 use mathlib.Core.List.{List, [], _∷_, _++_}

@@ -1,4 +1,4 @@
--- Document 01's small inputs of conditions 1 to 4, others beside them, and files about as long as one may be. Definitions only.
+-- The small inputs of conditions 1 to 4 (SCOPE 7), others beside them, and files about as long as one may be.
 use Prim.Native.Nat.{ℕ}
 use mathlib.Core.Bool.{Bool}
 use mathlib.Core.List.{List, [], _∷_, _++_}
@@ -14,7 +14,7 @@ long = 3 ∷ 90 ∷ 90 ∷ 0 ∷ 1 ∷ 0 ∷ 251 ∷ 127 ∷ replicate 65526 20
 -- each input with its number, 0 where it is accepted
 abbrev pub inputs : List (List ℕ × ℕ)
 inputs =
-    -- document 01's
+    -- those of SCOPE 7
     (replicate 65537 0, 1)
     ∷ (3 ∷ 90 ∷ [], 2)
     ∷ (3 ∷ 90 ∷ 90 ∷ 2 ∷ 0 ∷ 0 ∷ 0 ∷ [], 3)

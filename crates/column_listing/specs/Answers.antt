@@ -1,4 +1,4 @@
--- What the functions reply, and what the lent buffer holds afterwards. Definitions only.
+-- What the functions reply, and what the lent buffer holds afterwards.
 use Prim.Native.Nat.{ℕ}
 use mathlib.Core.List.{List}
 use lib.Dec.{ltb, leb}
@@ -29,7 +29,7 @@ abbrev pub listingAnswer : Result (List ℕ) → Listing
 listingAnswer (refused r) = listing.Refused r
 listingAnswer (accepted t) = listing.Given (length t)
 
--- document 01's number of a reply, 0 for one that is no refusal
+-- the number (SCOPE 7) of a reply, 0 for one that is no refusal
 abbrev pub listingNumber : Listing → ℕ
 listingNumber (listing.Refused r) = numberOf r
 listingNumber (listing.Given n) = 0

@@ -1,4 +1,4 @@
--- The listing of a column file, from the file's bytes to the text's bytes. Definitions only.
+-- The listing of a column file, from the file's bytes to the text's bytes.
 use Prim.Native.Nat.{ℕ}
 use mathlib.Core.List.{List, [], _∷_, _++_}
 use Rattle.refusals.specs.Result.{Result, refused, accepted, andThen}

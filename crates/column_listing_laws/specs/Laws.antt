@@ -1,4 +1,4 @@
--- What holds of the lines of every file, and how long its listing is. Definitions only.
+-- What holds of the lines of every file, and how long its listing is.
 use mathlib.Core.Path.{_≡_}
 use mathlib.Core.Bool.{Bool, true, false}
 use mathlib.Core.List.{List, [], _∷_}

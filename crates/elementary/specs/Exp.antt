@@ -1,5 +1,5 @@
 -- exp: with x = (128·k + j)·ln 2/128 + r, k and j whole, j below 128 and r at most ln 2/256 either way, exp x = 2^k · 2^(j/128) · exp r.
--- Definitions only.
+--
 use Prim.Native.Nat.{ℕ, _+_, _-_, _*_, _/_, _%_, _^_}
 use mathlib.Core.Bool.{Bool, _&&_}
 use lib.Dec.{leb, ltb}

@@ -1,4 +1,4 @@
--- exp(x) - 1: for a y near 0 it is y + y²/2 and a correction; a little further below 0 it is (exp(y) - 1)/2 - 1/2 at y = x + ln 2. Definitions only.
+-- exp(x) - 1: for a y near 0 it is y + y²/2 and a correction; a little further below 0 it is (exp(y) - 1)/2 - 1/2 at y = x + ln 2.
 use lib.Ieee.{Float, eq, neg}
 use Rattle.elementary.specs.declared.exp_minus_one.Correction.{Correction}
 use Rattle.float.specs.Ops.{_⊕_, _⊖_, _⊗_, _⊘_, bits, plusZero, one}

@@ -1,4 +1,4 @@
--- a·b + c with one rounding, from operations that round each time. Definitions only.
+-- a·b + c with one rounding, from operations that round each time.
 use lib.Ieee.{Float, eq}
 use Rattle.float.specs.Ops.{_⊕_, _⊖_, _⊗_, bits}
 use Rattle.words.specs.Choice.{if_then_else_}

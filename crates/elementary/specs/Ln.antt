@@ -1,5 +1,5 @@
 -- ln: a normal x is m·2^k with m from 1 to 2; with c from a table, near m, and r = m/c - 1, ln x = k·ln 2 + ln c + ln(1 + r). From m = 1.375 on k is one
--- more, and ln c is that of c/2. Definitions only.
+-- more, and ln c is that of c/2.
 use Prim.Native.Nat.{_+_, _/_, _%_, _^_}
 use mathlib.Core.Bool.{_&&_}
 use lib.Ieee.{Float, binary64, toBits, lt, le, eq, neg}

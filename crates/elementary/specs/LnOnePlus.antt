@@ -1,4 +1,4 @@
--- ln(1 + x): 1 + x is (1 + f)·2^k with 1 + f from about 0.707 to 1.414, so ln(1 + x) = k·ln 2 + ln(1 + f). Definitions only.
+-- ln(1 + x): 1 + x is (1 + f)·2^k with 1 + f from about 0.707 to 1.414, so ln(1 + x) = k·ln 2 + ln(1 + f).
 use Prim.Native.Nat.{_+_, _/_, _%_, _^_}
 use mathlib.Core.Bool.{_&&_}
 use lib.Ieee.{Float, binary64, toBits, lt, le, eq, neg}

@@ -1,4 +1,4 @@
--- Document 01's claims on the four functions, computed. A declaration may take 50 million steps, so each claim is one of its own, or two, and
+-- The claims of SCOPE 8 on the four functions, computed. A declaration may take 50 million steps, so each claim is one of its own, or two, and
 -- `accuracy` joins them. Assumes nothing.
 use lib.Dec.{T}
 use lib.Ieee.{add, sub, mul, div, neg, lt, le, eq, ne, ofBits, toBits, ofInt}
@@ -41,7 +41,7 @@ named-values : T (all named)
 unfolding add sub mul div neg lt le eq ne ofBits toBits ofInt headOf lostOf productErrorOf fmaSmallProductOf fmaLargeProductOf expRowOf seriesOf powerOfTwoOf scaledOf from0Of nearOf expOf betweenOf lnRowOf ratioOf normalOf reducedOf expansionOf joinedOf numberOf lnOnePlusOf lnOf correctionOf nearZeroOf shiftedOf expMinusOneOf same
 named-values = tt
 
--- every claim of document 01's item 1
+-- every claim of SCOPE 8
 pub accuracy : T (all claims)
 accuracy =
     and-i (everyFrom expAtLevel 0 94) _ exp-levels

@@ -1,4 +1,4 @@
--- What document 01 asks of the four functions (port order, item 1), claim by claim. Definitions only.
+-- What SCOPE 8 asks of the four functions, claim by claim.
 use Prim.Native.Nat.{ℕ, _-_, _^_}
 use mathlib.Core.Bool.{Bool, _&&_}
 use mathlib.Core.List.{List, [], _∷_}

@@ -1,4 +1,4 @@
--- Exact fractions, to say how near a result comes with no rounding at all. Definitions only.
+-- Exact fractions, to say how near a result comes with no rounding at all.
 use Prim.Native.Nat.{ℕ, zero, suc, _+_, _*_}
 use mathlib.Core.Bool.{Bool, true, false, _&&_}
 use lib.Dec.{leb}

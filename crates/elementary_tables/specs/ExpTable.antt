@@ -1,4 +1,4 @@
--- The two tables of exp, by their bit patterns. Definitions only.
+-- The two tables of exp, by their bit patterns.
 use Prim.Native.Nat.{ℕ, min}
 use mathlib.Core.List.{List, [], _∷_}
 use lib.ListN.{getD}

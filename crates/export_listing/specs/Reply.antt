@@ -1,4 +1,4 @@
--- The reply of a listing in one number. Definitions only.
+-- The reply of a listing in one number.
 use Prim.Native.Nat.{ℕ, _+_}
 use mathlib.Core.List.{List}
 use lib.ListN.{length}

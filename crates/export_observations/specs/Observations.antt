@@ -1,4 +1,4 @@
--- What a builder has counted, as bytes. Definitions only.
+-- What a builder has counted, as bytes.
 use Prim.Native.Nat.{ℕ}
 use mathlib.Core.List.{List, [], _∷_, _++_}
 use lib.Dec.{eqb}

@@ -1,4 +1,4 @@
--- Numbers as bytes, and bytes in a lent buffer. Definitions only.
+-- Numbers as bytes, and bytes in a lent buffer.
 use Prim.Native.Nat.{ℕ, zero, suc, _+_, _*_, _/_, _%_}
 use mathlib.Core.Path.{_≡_}
 use mathlib.Core.List.{List, [], _∷_}

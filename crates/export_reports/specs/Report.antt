@@ -1,4 +1,4 @@
--- The bytes of a report. Definitions only.
+-- The bytes of a report.
 use Prim.Native.Nat.{ℕ}
 use mathlib.Core.List.{List, [], _∷_, _++_}
 use lib.Ieee.{Float, binary64, toBits}

@@ -1,4 +1,4 @@
--- What a script writes. Definitions only.
+-- What a script writes.
 use Prim.Native.Nat.{ℕ, _+_}
 use mathlib.Core.Bool.{_&&_}
 use mathlib.Core.List.{List, [], _∷_, _++_}

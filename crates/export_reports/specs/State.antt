@@ -1,4 +1,4 @@
--- A builder of 80 given bytes. Definitions only.
+-- A builder of 80 given bytes.
 use Prim.Native.Nat.{ℕ, _+_, _*_}
 use mathlib.Core.List.{List, []}
 use lib.Dec.{eqb}

@@ -1,4 +1,4 @@
--- A script: items of three bytes each. Definitions only.
+-- A script: items of three bytes each.
 use Prim.Native.Nat.{ℕ, _+_, min}
 use mathlib.Core.Bool.{Bool, true, false, _&&_}
 use mathlib.Core.List.{List, [], _∷_}

@@ -1,4 +1,4 @@
--- The tables of a pair of rates as bytes, as `tables` hands them out. Definitions only.
+-- The tables of a pair of rates as bytes, as `tables` hands them out.
 use Prim.Native.Nat.{ℕ, _-_, _/_, _%_, _^_}
 use mathlib.Core.List.{List, _++_}
 use lib.Dec.{ltb}

@@ -1,4 +1,4 @@
--- A script that is run many times, for timing: what its calls add up to. Definitions only.
+-- A script that is run many times, for timing: what its calls add up to.
 use Prim.Native.Nat.{ℕ, _+_, _*_, _%_, _^_}
 use mathlib.Core.Bool.{_&&_}
 use mathlib.Core.List.{List, [], _∷_}

@@ -1,4 +1,4 @@
--- Replies in one number, and the functions by number at the defaults. Definitions only.
+-- Replies in one number, and the functions by number at the defaults.
 use Prim.Native.Nat.{ℕ, _+_, _*_}
 use mathlib.Core.Bool.{Bool, true, false}
 use mathlib.Core.List.{List}

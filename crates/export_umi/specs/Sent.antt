@@ -1,4 +1,4 @@
--- The functions of a caller by number, with its builder afterwards behind the string. Definitions only.
+-- The functions of a caller by number, with its builder afterwards behind the string.
 use Prim.Native.Nat.{ℕ}
 use mathlib.Core.List.{List, _++_}
 use lib.Dec.{leb, eqb}

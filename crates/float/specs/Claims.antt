@@ -1,4 +1,4 @@
--- When two f64 are the same, as a claim that is computed. Definitions only.
+-- When two f64 are the same, as a claim that is computed.
 use mathlib.Core.Bool.{Bool}
 use lib.Dec.{eqb}
 use lib.Ieee.{Float, binary64, toBits}

@@ -1,4 +1,4 @@
--- What Rust's methods on f64 give, by cases on the value: the size, the larger of two, the floor as a whole number; and the test of a range. Definitions only.
+-- What Rust's methods on f64 give, by cases on the value: the size, the larger of two, the floor as a whole number; and the test of a range.
 use Prim.Native.Nat.{ℕ, _-_, _*_, _/_, _^_, min}
 use mathlib.Core.Bool.{Bool, true, false, _&&_}
 use lib.Ieee.{Float, nan, inf, fin, up, down, lt, isNan}

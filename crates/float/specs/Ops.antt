@@ -1,5 +1,5 @@
 -- The notation of all our definitions on f64: the four operations, each rounded once as IEEE 754 has it (to the nearest, ties to even),
--- in Knuth's signs, and constants by their bit patterns. Definitions only.
+-- in Knuth's signs, and constants by their bit patterns.
 use Prim.Native.Nat.{ℕ}
 use lib.Ieee.{Float, binary64, ofBits, ofInt, add, sub, mul, div}
 use lib.IntN.{pos}

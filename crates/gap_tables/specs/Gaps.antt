@@ -1,4 +1,4 @@
--- The quality of a unanimous position by the gap between its base and the others, and the tables that a pre-UMI rate has of it. Definitions only.
+-- The quality of a unanimous position by the gap between its base and the others, and the tables that a pre-UMI rate has of it.
 use Prim.Native.Nat.{ℕ, _+_}
 use mathlib.Core.List.{List, [], _∷_}
 use lib.Dec.{ltb}

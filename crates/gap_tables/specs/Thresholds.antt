@@ -1,4 +1,4 @@
--- The least gaps at which a quality formula reaches each level, found by halving, and what is promised of them. The formula is any. Definitions only.
+-- The least gaps at which a quality formula reaches each level, found by halving, and what is promised of them. The formula is any.
 use mathlib.Core.Path.{_≡_}
 use mathlib.Core.Bool.{Bool, not}
 use mathlib.Core.Logic.{_↔_}

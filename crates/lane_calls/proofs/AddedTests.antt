@@ -1,4 +1,4 @@
--- Of the tests that document 01 adds to the multibase shortcut none but the one for a finite lane can fail, and that under FgbioCompat alone: the others
+-- Of the tests that SCOPE 9.6 adds to the multibase shortcut none but the one for a finite lane can fail, and that under FgbioCompat alone: the others
 -- pass wherever a rule names a lane. Assumes nothing.
 use mathlib.Core.Path.{_≡_, refl, ap}
 use mathlib.Core.Bool.{Bool, true, false, _&&_}

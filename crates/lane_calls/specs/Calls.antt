@@ -1,4 +1,4 @@
--- What is called, and how a shortcut answers. Definitions only.
+-- What is called, and how a shortcut answers.
 use Prim.Native.Nat.{ℕ}
 use lib.Ieee.{Float}
 use Rattle.float.specs.Ops.{_⊕_, _⊗_, _⊘_, bits}

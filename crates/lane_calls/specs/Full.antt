@@ -1,4 +1,4 @@
--- The long calculation, which asks neither shortcut. Definitions only.
+-- The long calculation, which asks neither shortcut.
 use Prim.Native.Nat.{ℕ}
 use mathlib.Core.List.{List}
 use lib.Dec.{ltb}

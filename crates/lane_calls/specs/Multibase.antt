@@ -1,4 +1,4 @@
--- The shortcut where two or more bases were observed: the error from the other lanes' distances to the rule's. Definitions only.
+-- The shortcut where two or more bases were observed: the error from the other lanes' distances to the rule's.
 use Prim.Native.Nat.{ℕ, zero, suc}
 use mathlib.Core.Bool.{_&&_}
 use mathlib.Core.List.{List}

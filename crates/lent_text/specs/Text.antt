@@ -1,4 +1,4 @@
--- Text as a list of bytes: letters, numbers, lines. Definitions only.
+-- Text as a list of bytes: letters, numbers, lines.
 use Prim.Native.Nat.{ℕ, zero, suc, _+_, _/_, _%_}
 use Prim.Native.Char.{code}
 use Prim.Native.String.{String, [] as none, _∷_ as _then_}

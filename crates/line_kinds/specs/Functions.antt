@@ -1,4 +1,4 @@
--- The functions whose answers are compared, and the kinds of lines, by the letter that a line starts with. Definitions only.
+-- The functions whose answers are compared, and the kinds of lines, by the letter that a line starts with.
 use Prim.Native.Nat.{ℕ, _+_, _*_}
 use lib.Dec.{eqb}
 use Rattle.line_kinds.specs.declared.functions.Function.{Function}

@@ -1,4 +1,4 @@
--- The lines of a listing. Definitions only.
+-- The lines of a listing.
 use Prim.Native.Nat.{ℕ, _+_}
 use mathlib.Core.Bool.{Bool, true, false}
 use mathlib.Core.List.{List, [], _∷_, _++_}

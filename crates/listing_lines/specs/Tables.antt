@@ -1,4 +1,4 @@
--- The lines by how a column's builder is made, with tables that are given: what the functions that borrow them say. Definitions only.
+-- The lines by how a column's builder is made, with tables that are given: what the functions that borrow them say.
 use Prim.Native.Nat.{ℕ, _+_}
 use mathlib.Core.Bool.{Bool}
 use mathlib.Core.List.{List, [], _∷_, _++_}

@@ -1,4 +1,4 @@
--- The lane that a sum starts from is the one that document 01 names, which names no other, and one of the lanes. Assumes nothing.
+-- The lane that a sum starts from is the one that SCOPE 2.3 names, which names no other, and one of the lanes. Assumes nothing.
 use mathlib.Core.Path.{_≡_, refl, sym, ap, _∙_, subst}
 use mathlib.Core.Bool.{Bool, true, false, true≢false}
 use mathlib.Core.Logic.{_⊎_, inl, inr, ⊎-elim}

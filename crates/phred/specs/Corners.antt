@@ -1,4 +1,4 @@
--- Document 01's corners of phred.rs that a computation settles, and each level's way to its logarithm and back. Definitions only.
+-- The corners of phred.rs (SCOPE 2) that a computation settles, and each level's way to its logarithm and back.
 use Prim.Native.Nat.{ℕ}
 use mathlib.Core.Bool.{Bool}
 use mathlib.Core.List.{List, [], _∷_}

@@ -1,5 +1,5 @@
 -- Phred levels and natural logarithms of probabilities: what each function of phred.rs gives, in its order. A level is a whole number, a logarithm
--- an f64. Definitions only.
+-- an f64.
 use Prim.Native.Nat.{ℕ, suc, _+_, min, max}
 use mathlib.Core.Bool.{Bool, true, _&&_}
 use mathlib.Core.List.{List, [], _∷_, _++_}

@@ -1,4 +1,4 @@
--- Document 01's words for the lane that a sum starts from. Definitions only.
+-- SCOPE 2.3: the lane that a sum starts from.
 use mathlib.Core.Path.{_≡_}
 use mathlib.Core.Bool.{true, false}
 use mathlib.Core.List.{List}

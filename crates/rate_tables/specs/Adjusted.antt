@@ -1,4 +1,4 @@
--- What an observation adds to a lane's logarithm at each quality, for a post-UMI rate. Definitions only.
+-- What an observation adds to a lane's logarithm at each quality, for a post-UMI rate.
 use Prim.Native.Nat.{ℕ}
 use mathlib.Core.List.{List}
 use lib.Ieee.{Float}

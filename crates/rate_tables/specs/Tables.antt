@@ -1,4 +1,4 @@
--- A table with an entry for each of the 94 levels. Definitions only.
+-- A table with an entry for each of the 94 levels.
 use Prim.Native.Nat.{ℕ}
 use mathlib.Core.List.{List}
 use lib.Ieee.{Float}

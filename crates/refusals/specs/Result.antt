@@ -1,4 +1,4 @@
--- What is refused, or accepted with a value. Definitions only.
+-- What is refused, or accepted with a value.
 use mathlib.Core.List.{List, [], _∷_}
 use Rattle.refusals.specs.declared.Refusal.{Refusal}
 use Rattle.refusals.specs.declared.Verdict.{Verdict}

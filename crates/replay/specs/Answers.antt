@@ -1,4 +1,4 @@
--- What a function gives for the numbers of a line. Definitions only.
+-- What a function gives for the numbers of a line.
 use Prim.Native.Nat.{ℕ}
 use mathlib.Core.List.{List, [], _∷_}
 use lib.Dec.{ltb}

@@ -1,4 +1,4 @@
--- A line of a builder: whether its report is what the script writes that is run from the builder. Definitions only.
+-- A line of a builder: whether its report is what the script writes that is run from the builder.
 use Prim.Native.Nat.{ℕ}
 use mathlib.Core.Bool.{Bool, _&&_}
 use mathlib.Core.List.{List}

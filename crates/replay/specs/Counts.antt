@@ -1,4 +1,4 @@
--- How many answers were read, and how many of them are equal, by the letters of their lines. Definitions only.
+-- How many answers were read, and how many of them are equal, by the letters of their lines.
 use Prim.Native.Nat.{ℕ, _+_, _%_, _^_}
 use mathlib.Core.List.{List}
 use lib.ListN.{getD, set}

@@ -1,4 +1,4 @@
--- A field of bytes: a space, and two digits for each byte. Definitions only.
+-- A field of bytes: a space, and two digits for each byte.
 use Prim.Native.Nat.{ℕ, _+_, _*_}
 use mathlib.Core.Bool.{Bool, true, _&&_}
 use mathlib.Core.List.{List, [], _∷_}

@@ -1,4 +1,4 @@
--- The number that hex digits write. Definitions only.
+-- The number that hex digits write.
 use Prim.Native.Nat.{ℕ, _+_, _-_, _*_}
 use mathlib.Core.List.{List, [], _∷_}
 use lib.Dec.{ltb}

@@ -1,4 +1,4 @@
--- What a line of the stored list says: if its result is its function's, its report its builder's, its text its file's listing, bit for bit. Definitions only.
+-- What a line of the stored list says: if its result is its function's, its report its builder's, its text its file's listing, bit for bit.
 use Prim.Native.Nat.{ℕ, zero, suc, _+_, _*_}
 use mathlib.Core.Bool.{true, false, _&&_}
 use mathlib.Core.List.{List}

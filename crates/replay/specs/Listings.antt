@@ -1,4 +1,4 @@
--- A line of a listing: whether its text is what is printed for its column file. Definitions only.
+-- A line of a listing: whether its text is what is printed for its column file.
 use Prim.Native.Nat.{ℕ, _+_, _*_}
 use mathlib.Core.Bool.{Bool, _&&_}
 use mathlib.Core.List.{List}

@@ -1,4 +1,4 @@
--- What the functions reply, what the lent buffer holds and what the caller is afterwards. Definitions only.
+-- What the functions reply, what the lent buffer holds and what the caller is afterwards.
 use Prim.Native.Nat.{ℕ}
 use mathlib.Core.List.{List}
 use lib.Dec.{ltb}
@@ -68,7 +68,7 @@ abbrev pub verdictIn : {A : Type 0} → Result A → Verdict
 verdictIn (refused r) = Refused r
 verdictIn (accepted a) = Sound
 
--- document 01's number of an answer, 0 for one that is no refusal
+-- the number (SCOPE 7) of an answer, 0 for one that is no refusal
 abbrev pub answerNumber : Answer → ℕ
 answerNumber (answer.Refused r) = numberOf r
 answerNumber (answer.Given n) = 0

@@ -1,4 +1,4 @@
--- The consensus of a list of strings. Definitions only.
+-- The consensus of a list of strings.
 use Prim.Native.Nat.{ℕ}
 use mathlib.Core.Bool.{Bool, not}
 use mathlib.Core.List.{List, map}

@@ -1,4 +1,4 @@
--- The consensus of strings of two strands, which end in /A and /B. Definitions only.
+-- The consensus of strings of two strands, which end in /A and /B.
 use Prim.Native.Nat.{ℕ, _-_}
 use mathlib.Core.Bool.{Bool}
 use mathlib.Core.List.{List, [], _∷_, map}

@@ -1,4 +1,4 @@
--- Strings by the places of their length bytes in a set, and what the code keeps of a group of them. Definitions only.
+-- Strings by the places of their length bytes in a set, and what the code keeps of a group of them.
 use mathlib.Core.Path.{_≡_}
 use mathlib.Core.Bool.{Bool}
 use mathlib.Core.List.{List, map}

@@ -1,4 +1,4 @@
--- Lists of strings: their columns, and what is asked of them. Definitions only.
+-- Lists of strings: their columns, and what is asked of them.
 use Prim.Native.Nat.{ℕ}
 use mathlib.Core.Bool.{Bool, _&&_}
 use mathlib.Core.List.{List, [], _∷_, map}

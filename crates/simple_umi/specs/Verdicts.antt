@@ -1,4 +1,4 @@
--- What is refused in a list of strings. Definitions only.
+-- What is refused in a list of strings.
 use Prim.Native.Nat.{ℕ}
 use mathlib.Core.List.{List}
 use lib.ListN.{length}

@@ -1,4 +1,4 @@
--- An example of two strands: /A, AC/B, AC/B and AG/B. Definitions only.
+-- An example of two strands: /A, AC/B, AC/B and AG/B.
 use mathlib.Core.Path.{_≡_}
 use mathlib.Core.Bool.{true, false}
 use mathlib.Core.List.{List, [], _∷_}

@@ -1,4 +1,4 @@
--- What holds of the strings of two strands. Definitions only.
+-- What holds of the strings of two strands.
 use mathlib.Core.Path.{_≡_}
 use mathlib.Core.Bool.{true, false}
 use mathlib.Core.List.{List, [], _∷_, _++_}

@@ -1,4 +1,4 @@
--- Worked inputs at the defaults, in claims that are computed. Definitions only.
+-- Worked inputs at the defaults, in claims that are computed.
 use Prim.Native.Nat.{ℕ}
 use mathlib.Core.Bool.{Bool, true, false, _&&_, Bool·beq}
 use mathlib.Core.List.{List, [], _∷_}

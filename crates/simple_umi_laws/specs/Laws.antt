@@ -1,4 +1,4 @@
--- What holds of every list of strings. Definitions only.
+-- What holds of every list of strings.
 use mathlib.Core.Path.{_≡_}
 use mathlib.Core.Bool.{Bool, true, false, _||_}
 use mathlib.Core.List.{List, [], _∷_, _++_}

@@ -1,4 +1,4 @@
--- What a room holds of a stream, and of a text. Definitions only.
+-- What a room holds of a stream, and of a text.
 use mathlib.Core.Path.{_≡_}
 use mathlib.Core.List.{List, _++_}
 use Prim.Native.Nat.{ℕ}

@@ -1,4 +1,4 @@
--- What is read of a set: how many strings, and the places of their length bytes. Definitions only.
+-- What is read of a set: how many strings, and the places of their length bytes.
 use mathlib.Core.List.{List, [], _∷_, _++_}
 use Prim.Native.Nat.{ℕ, _+_}
 use lib.ListN.{length, drop}
@@ -12,7 +12,7 @@ abbrev pub readingOf : Result (List (List ℕ)) → Reading
 readingOf (refused r) = Refused r
 readingOf (accepted l) = Strings (length l)
 
--- document 01's number of what it says, 0 for no refusal
+-- the number (SCOPE 7) of what it says, 0 for no refusal
 abbrev pub readingNumber : Reading → ℕ
 readingNumber (Refused r) = numberOf r
 readingNumber (Strings n) = 0

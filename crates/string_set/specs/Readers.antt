@@ -1,4 +1,4 @@
--- Reading off the front of a list of bytes. No position and no loop stands here. Definitions only.
+-- Reading off the front of a list of bytes. No position and no loop stands here.
 use Prim.Native.Nat.{ℕ, zero, suc, _+_, _*_}
 use mathlib.Core.List.{List, [], _∷_}
 use lib.Dec.{leb, ltb}

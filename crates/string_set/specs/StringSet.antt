@@ -1,4 +1,4 @@
--- A string set in its file form. Definitions only.
+-- A string set in its file form.
 use Prim.Native.Nat.{ℕ}
 use mathlib.Core.List.{List}
 use Rattle.refusals.specs.Result.{Result}

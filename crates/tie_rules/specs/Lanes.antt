@@ -1,4 +1,4 @@
--- Four lanes, one for each of A, C, G and T, in this order. Definitions only.
+-- Four lanes, one for each of A, C, G and T, in this order.
 use Prim.Native.Nat.{ℕ, zero, suc}
 use mathlib.Core.Bool.{Bool, true, _&&_, _||_}
 use mathlib.Core.List.{List, [], _∷_}

@@ -1,4 +1,4 @@
--- fgbio's rule as it is run: a scan that begins at -infinity. Definitions only.
+-- fgbio's rule as it is run: a scan that begins at -infinity.
 use Prim.Native.Nat.{ℕ}
 use lib.Ieee.{Float, lt, le}
 use Rattle.float.specs.Ops.{_⊖_, bits}

@@ -1,4 +1,4 @@
--- The two tie rules: when two lanes tie, and the lane that each rule names. Definitions only.
+-- The two tie rules: when two lanes tie, and the lane that each rule names.
 use Prim.Native.Nat.{ℕ, zero, suc, _+_, _^_}
 use mathlib.Core.Bool.{Bool, true, false, not, _&&_, _||_, Bool·beq}
 use mathlib.Core.List.{List}

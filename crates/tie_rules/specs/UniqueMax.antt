@@ -1,4 +1,4 @@
--- What the source answers as an Option: a lane, or none. Definitions only.
+-- What the source answers as an Option: a lane, or none.
 use Prim.Native.Nat.{ℕ}
 use lib.Dec.{ltb}
 use Rattle.words.specs.Choice.{if_then_else_}

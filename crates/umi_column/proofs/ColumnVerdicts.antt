@@ -1,4 +1,4 @@
--- The verdict on a column: by the code's tests, and what document 01 says of it. Assumes nothing.
+-- The verdict on a column: by the code's tests, and what SCOPE 7 says of it. Assumes nothing.
 use mathlib.Core.Path.{_≡_, refl, sym, ap, _∙_}
 use mathlib.Core.Bool.{Bool, true, false, not}
 use mathlib.Core.List.{List, [], _∷_}

@@ -1,4 +1,4 @@
--- The builder after a column, and the byte that the column gives. Definitions only.
+-- The builder after a column, and the byte that the column gives.
 use Prim.Native.Nat.{ℕ}
 use mathlib.Core.List.{List, [], _∷_, map}
 use lib.Ieee.{Float}

@@ -1,4 +1,4 @@
--- How many bytes of a column are each base, and when these counts alone name the lane. Definitions only.
+-- How many bytes of a column are each base, and when these counts alone name the lane.
 use Prim.Native.Nat.{ℕ, suc, _<_}
 use mathlib.Core.Bool.{Bool, _&&_}
 use mathlib.Core.List.{List, [], _∷_}

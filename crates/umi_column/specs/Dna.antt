@@ -1,4 +1,4 @@
--- Which bytes count as DNA. Definitions only.
+-- Which bytes count as DNA.
 use Prim.Native.Nat.{ℕ, _-_}
 use mathlib.Core.Bool.{Bool, _&&_}
 use mathlib.Core.List.{List, [], _∷_}

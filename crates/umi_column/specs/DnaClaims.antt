@@ -1,4 +1,4 @@
--- Which bytes count as DNA, in claims that are computed. Definitions only.
+-- Which bytes count as DNA, in claims that are computed.
 use Prim.Native.Nat.{ℕ}
 use mathlib.Core.Bool.{Bool, Bool·beq}
 use mathlib.Core.List.{List, [], _∷_}

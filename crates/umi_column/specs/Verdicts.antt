@@ -1,4 +1,4 @@
--- What is refused in a column. Definitions only.
+-- What is refused in a column.
 use Prim.Native.Nat.{ℕ}
 use mathlib.Core.Bool.{Bool, not, _&&_}
 use mathlib.Core.List.{List}
@@ -25,7 +25,7 @@ verdictOf column =
     else if isMixed column then Refused Mixed
     else Sound
 
--- document 01's number of it, 0 where nothing is refused
+-- its number (SCOPE 7), 0 where nothing is refused
 unfoldable pub verdictNumberOf : List ℕ → ℕ
 verdictNumberOf column =
     if any (isUnlike (byteAt column 0)) column then 8

@@ -1,4 +1,4 @@
--- What the counts of a column's bases say of its sums. Definitions only.
+-- What the counts of a column's bases say of its sums.
 use mathlib.Core.Path.{_≡_}
 use mathlib.Core.Bool.{true}
 use mathlib.Core.List.{List}

@@ -1,4 +1,4 @@
--- How many of the strings have a base at each place. Definitions only.
+-- How many of the strings have a base at each place.
 use mathlib.Core.Path.{_≡_}
 use mathlib.Core.Bool.{_||_}
 use mathlib.Core.List.{List}

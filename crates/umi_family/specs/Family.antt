@@ -1,4 +1,4 @@
--- What a family is refused for, and what its columns give. Definitions only.
+-- What a family is refused for, and what its columns give.
 use mathlib.Core.Bool.{false}
 use mathlib.Core.List.{List, map}
 use Prim.Native.Nat.{ℕ}
@@ -27,7 +27,7 @@ verdictWithin w s ps =
     if any (any isHigh) (rowsAt w s ps) then Refused NotAscii
     else firstRefused verdictOf (columnsAt w s ps)
 
--- of any. What is said of strings that do not lie in the set, and of no places at all, is free, as document 01 has no such list: here it is 2
+-- of any. What is said of strings that do not lie in the set, and of no places at all, is free, as SCOPE 4 has no such list: here it is 2
 unfoldable pub verdictAt : ℕ → List ℕ → List ℕ → Verdict
 verdictAt w s ps =
     if fitting w s ps then verdictWithin w s ps

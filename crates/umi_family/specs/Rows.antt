@@ -1,4 +1,4 @@
--- Strings of one width by the places of their length bytes in a set. Definitions only.
+-- Strings of one width by the places of their length bytes in a set.
 use mathlib.Core.Bool.{Bool, true, false, not, _&&_, _||_}
 use mathlib.Core.List.{List, [], _∷_, map}
 use Prim.Native.Nat.{ℕ, _+_, _≤_, _<_}

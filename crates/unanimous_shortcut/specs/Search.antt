@@ -1,4 +1,4 @@
--- The search in a table of thresholds. Definitions only.
+-- The search in a table of thresholds.
 use Prim.Native.Nat.{ℕ, zero, suc, _+_, _-_}
 use mathlib.Core.Bool.{_&&_}
 use mathlib.Core.List.{List, [], _∷_}

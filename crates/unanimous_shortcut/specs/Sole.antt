@@ -1,4 +1,4 @@
--- The shortcut as it is run: who was seen as a number, and the rest for a lane that is given. Definitions only.
+-- The shortcut as it is run: who was seen as a number, and the rest for a lane that is given.
 use Prim.Native.Nat.{ℕ, _+_, _%_}
 use mathlib.Core.Bool.{_&&_}
 use mathlib.Core.List.{List}

@@ -1,4 +1,4 @@
--- The shortcut where one base alone was observed: its quality by its lead over the others, from the tables of the pre-UMI rate. Definitions only.
+-- The shortcut where one base alone was observed: its quality by its lead over the others, from the tables of the pre-UMI rate.
 use Prim.Native.Nat.{ℕ, _+_, _-_, _%_}
 use mathlib.Core.Bool.{Bool, not, _&&_, _||_}
 use mathlib.Core.List.{List}

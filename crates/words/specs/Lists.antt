@@ -1,4 +1,4 @@
--- The words of our definitions on lists. Definitions only.
+-- The words of our definitions on lists.
 use Prim.Native.Nat.{ℕ, zero, suc, _+_}
 use mathlib.Core.Bool.{Bool, true, false, _&&_, _||_}
 use mathlib.Core.List.{List, [], _∷_}

@@ -13,30 +13,6 @@ use Rattle.export_tables.proofs.byte.Tie as tie
 seven : (i : ℕ) → min i 7 ≡ 7 → i < 8 → i ≡ 7
 seven i h k = omega arith
 
-cast-result : tie.Need-cast-result
-cast-result c = search needs
-
-cast-result-2 : tie.Need-cast-result-2
-cast-result-2 c = search needs
-
-cast-result-3 : tie.Need-cast-result-3
-cast-result-3 c = search needs
-
-cast-result-4 : tie.Need-cast-result-4
-cast-result-4 c = search needs
-
-cast-result-5 : tie.Need-cast-result-5
-cast-result-5 c = search needs
-
-cast-result-6 : tie.Need-cast-result-6
-cast-result-6 c = search needs
-
-cast-result-7 : tie.Need-cast-result-7
-cast-result-7 c = search needs
-
-cast-result-8 : tie.Need-cast-result-8
-cast-result-8 c = search needs
-
 returns : tie.Need-returns
 unfolding byteOf
 returns c = rw (c .match .keys1, div-one)
@@ -73,14 +49,8 @@ pub byte-spec : {M : Type 1} → statement M
 byte-spec =
     tie.close
     (tie.spec
-    cast-result
-    cast-result-2
-    cast-result-3
-    cast-result-4
-    cast-result-5
-    cast-result-6
-    cast-result-7
-    cast-result-8
+    (λ c. search needs) (λ c. search needs) (λ c. search needs) (λ c. search needs)
+    (λ c. search needs) (λ c. search needs) (λ c. search needs) (λ c. search needs)
     returns
     returns-2
     returns-3

@@ -27,18 +27,6 @@ returns : tie.Need-returns
 unfolding tableBytes
 returns c = let a = c .before .before .args in over-short (tableByte (a .pre .0) (a .post .0)) 3016 (a .out .now) (c .if1 .taken)
 
-compute-requires : tie.Need-compute-requires
-compute-requires c κs = search needs
-
-build-unanimous-gap-tables-requires : tie.Need-build-unanimous-gap-tables-requires
-build-unanimous-gap-tables-requires c κs = search needs
-
-write-requires : tie.Need-write-requires
-write-requires c κs = search needs
-
-same-length : tie.Need-same-length
-same-length c = search needs
-
 returns-2 : tie.Need-returns-2
 returns-2 c =
     let a = c .before .before .before .before .before .before .before .before .before .before .before .before .before .before .before .before .args in
@@ -50,8 +38,5 @@ tables-spec =
     tie.close
     (tie.spec
     returns
-    compute-requires
-    build-unanimous-gap-tables-requires
-    write-requires
-    same-length
+    (λ c κs. search needs) (λ c κs. search needs) (λ c κs. search needs) (λ c. search needs)
     returns-2)

@@ -18,22 +18,10 @@ abbrev μ-loop : tie.MeasureT-loop
 loop-holds : tie.Need-loop-holds Inv-loop μ-loop
 loop-holds c = (omega arith, omega arith, over-none _ _)
 
-number-requires : tie.Need-number-requires Inv-loop μ-loop
-number-requires c κs = search needs
-
-byte-requires : tie.Need-byte-requires Inv-loop μ-loop
-byte-requires c κs = omega arith
-
 slice-write-out : tie.Need-slice-write-out Inv-loop μ-loop
 slice-write-out c =
     let l = c .before .before .before .loop in
     rw (l .inv .2, over-length (numberByte (c .before .before .before .before .before .args .correct .now) (c .before .before .before .before .before .args .error .now) (c .before .before .before .before .before .args .thresholds .now) (c .before .before .before .before .before .args .cerr .now) (c .before .before .before .before .before .args .cap)) (l .k) (c .before .before .before .before .before .args .out .now) (omega arith)) (omega arith)
-
-add-k : tie.Need-add-k Inv-loop μ-loop
-add-k c = omega arith
-
-loop-less : tie.Need-loop-less Inv-loop μ-loop
-loop-less c = omega arith
 
 loop-again : tie.Need-loop-again Inv-loop μ-loop
 loop-again c =
@@ -58,11 +46,9 @@ write-spec =
     Inv-loop
     μ-loop
     loop-holds
-    number-requires
-    byte-requires
+    (λ c κs. search needs) (λ c κs. omega arith)
     slice-write-out
-    add-k
-    loop-less
+    (λ c. omega arith) (λ c. omega arith)
     loop-again
     same-length
     returns)

@@ -13,8 +13,5 @@ returns c = rw (nan-alone _ (c .if1 .taken))
 float-to-bits-result : tie.Need-float-to-bits-result
 float-to-bits-result c = number _ (c .if1 .left)
 
-returns-2 : tie.Need-returns-2
-returns-2 c = search needs
-
 pub pattern-spec : {M : Type 1} → statement M
-pattern-spec = tie.close (tie.spec returns float-to-bits-result returns-2)
+pattern-spec = tie.close (tie.spec returns float-to-bits-result (λ c. search needs))

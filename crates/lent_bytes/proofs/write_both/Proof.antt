@@ -13,9 +13,6 @@ use Rattle.lent_bytes.proofs.Buffer.{sets-append, fits-written, short-w
 use Rattle.lent_bytes.proofs.write_both.Statement.{statement}
 use Rattle.lent_bytes.proofs.write_both.Tie as tie
 
-add-if1 : tie.Need-add-if1
-add-if1 c = search needs
-
 returns : tie.Need-returns
 returns c =
     let start = c .before .before .before .before in
@@ -26,9 +23,6 @@ returns c =
     let short : length out < length (a ++ b) = rw e (c .if1 .taken) in
     (sym (lt-leb _ _ short), short-written _ _ short)
 
-copy-at-requires : tie.Need-copy-at-requires
-copy-at-requires c κs = omega arith
-
 copy-at-requires-2 : tie.Need-copy-at-requires-2
 copy-at-requires-2 c κs =
     let start = c .before .before .before .before .before .before .before .before .before in
@@ -36,9 +30,6 @@ copy-at-requires-2 c κs =
     let out = start .args .out .now in
     let same = ap length (c .before .before .before .copy-at .ensures) ∙ length-sets out 0 a in
     omega (arith, same)
-
-same-length : tie.Need-same-length
-same-length c = search needs
 
 -- the one part and then the other
 put-both : (out a b o1 o2 : List ℕ) → o1 ≡ sets out 0 a → o2 ≡ sets o1 (length a) b → length (a ++ b) ≤ length out → o2 ≡ written (a ++ b) out
@@ -61,4 +52,7 @@ returns-2 c =
 
 pub write-both-spec : {M : Type 1} → statement M
 write-both-spec =
-    tie.close (tie.spec add-if1 returns copy-at-requires copy-at-requires-2 same-length returns-2)
+    tie.close
+    (tie.spec
+    (λ c. search needs) returns (λ c κs. omega arith) copy-at-requires-2 (λ c. search needs)
+    returns-2)

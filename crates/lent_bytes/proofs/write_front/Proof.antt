@@ -9,16 +9,10 @@ use Rattle.lent_bytes.proofs.write_front.Tie as tie
 returns : tie.Need-returns
 returns c = (sym (lt-leb _ _ (c .if1 .taken)), short-written _ _ (c .if1 .taken))
 
-copy-at-requires : tie.Need-copy-at-requires
-copy-at-requires c κs = search needs
-
-same-length : tie.Need-same-length
-same-length c = search needs
-
 returns-2 : tie.Need-returns-2
 returns-2 c =
     let fits = c .before .before .before .before .if1 .left in
     (sym (le-leb _ _ fits), c .before .before .copy-at .ensures ∙ fits-written _ _ fits)
 
 pub write-front-spec : {M : Type 1} → statement M
-write-front-spec = tie.close (tie.spec returns copy-at-requires same-length returns-2)
+write-front-spec = tie.close (tie.spec returns (λ c κs. search needs) (λ c. search needs) returns-2)

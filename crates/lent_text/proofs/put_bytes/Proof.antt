@@ -25,18 +25,6 @@ abbrev μ-loop : tie.MeasureT-loop
 loop-holds : tie.Need-loop-holds Inv-loop μ-loop
 loop-holds c = (omega arith, print-none _ _ (omega arith) (omega arith))
 
-shared-slice-read-put-byte : tie.Need-shared-slice-read-put-byte Inv-loop μ-loop
-shared-slice-read-put-byte c = omega arith
-
-put-byte-requires : tie.Need-put-byte-requires Inv-loop μ-loop
-put-byte-requires c κs = search needs
-
-add-done : tie.Need-add-done Inv-loop μ-loop
-add-done c = omega arith
-
-loop-less : tie.Need-loop-less Inv-loop μ-loop
-loop-less c = omega arith
-
 loop-again : tie.Need-loop-again Inv-loop μ-loop
 loop-again c =
     let l = c .before .before .before .before .before .before .loop in
@@ -59,10 +47,7 @@ put-bytes-spec =
     Inv-loop
     μ-loop
     loop-holds
-    shared-slice-read-put-byte
-    put-byte-requires
-    add-done
-    loop-less
+    (λ c. omega arith) (λ c κs. search needs) (λ c. omega arith) (λ c. omega arith)
     loop-again
     same-length
     returns)

@@ -6,33 +6,6 @@ use borrow.Author.Needs.{needs}
 use Rattle.listing_lines.proofs.put_line.Statement.{statement}
 use Rattle.listing_lines.proofs.put_line.Tie as tie
 
-put-decimal-requires : tie.Need-put-decimal-requires
-put-decimal-requires c κs = tt
-
-put-byte-requires : tie.Need-put-byte-requires
-put-byte-requires c κs = tt
-
-put-byte-requires-2 : tie.Need-put-byte-requires-2
-put-byte-requires-2 c κs = tt
-
-cast-wide : tie.Need-cast-wide
-cast-wide c = search needs
-
-wide-requires : tie.Need-wide-requires
-wide-requires c κs = tt
-
-put-field-requires : tie.Need-put-field-requires
-put-field-requires c κs = tt
-
-put-field-requires-2 : tie.Need-put-field-requires-2
-put-field-requires-2 c κs = tt
-
-put-counts-requires : tie.Need-put-counts-requires
-put-counts-requires c κs = tt
-
-put-byte-requires-3 : tie.Need-put-byte-requires-3
-put-byte-requires-3 c κs = tt
-
 -- the puts, one after another
 whole : tie.Need-returns
 whole c =
@@ -63,14 +36,7 @@ pub put-line-spec : {M : Type 1} → statement M
 put-line-spec =
     tie.close
     (tie.spec
-    put-decimal-requires
-    put-byte-requires
-    put-byte-requires-2
-    cast-wide
-    wide-requires
-    put-field-requires
-    put-field-requires-2
-    put-counts-requires
-    put-byte-requires-3
+    (λ c κs. tt) (λ c κs. tt) (λ c κs. tt) (λ c. search needs) (λ c κs. tt) (λ c κs. tt)
+    (λ c κs. tt) (λ c κs. tt) (λ c κs. tt)
     same-length
     returns)

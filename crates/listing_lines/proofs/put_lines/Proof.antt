@@ -44,15 +44,6 @@ loop-holds c =
     let e : a .count - 0 ≡ a .count = omega arith in
     (omega arith, [], print-none _ _ (omega arith) (omega arith), rw e)
 
-column-at-requires : tie.Need-column-at-requires Inv-loop μ-loop
-column-at-requires c κs = tt
-
-enum-known-next : tie.Need-enum-known-next Inv-loop μ-loop
-enum-known-next c = search needs
-
-enum-told : tie.Need-enum-told Inv-loop μ-loop
-enum-told c = search needs
-
 same-length : tie.Need-same-length Inv-loop μ-loop
 same-length c = printed-length (c .before .before .before .before .loop .inv .2)
 
@@ -71,29 +62,8 @@ mul-end c = omega (arith, inside c)
 add-end : tie.Need-add-end Inv-loop μ-loop
 add-end c = omega (arith, inside c)
 
-sub-add-observations : tie.Need-sub-add-observations Inv-loop μ-loop
-sub-add-observations c = search needs
-
-part-add-observations-start : tie.Need-part-add-observations-start Inv-loop μ-loop
-part-add-observations-start c = search needs
-
 part-add-observations-end : tie.Need-part-add-observations-end Inv-loop μ-loop
 part-add-observations-end c = inside c
-
-add-observations-requires : tie.Need-add-observations-requires Inv-loop μ-loop
-add-observations-requires c κs = tt
-
-call-with-requires : tie.Need-call-with-requires Inv-loop μ-loop
-call-with-requires c κs = tt
-
-add-number : tie.Need-add-number Inv-loop μ-loop
-add-number c = search needs
-
-put-line-requires : tie.Need-put-line-requires Inv-loop μ-loop
-put-line-requires c κs = tt
-
-loop-less : tie.Need-loop-less Inv-loop μ-loop
-loop-less c = search needs
 
 loop-again : tie.Need-loop-again Inv-loop μ-loop
 unfolding lineWith
@@ -141,21 +111,14 @@ put-lines-spec =
     Inv-loop
     μ-loop
     loop-holds
-    column-at-requires
-    enum-known-next
-    enum-told
+    (λ c κs. tt) (λ c. search needs) (λ c. search needs)
     same-length
     returns
     mul-end
     add-end
-    sub-add-observations
-    part-add-observations-start
+    (λ c. search needs) (λ c. search needs)
     part-add-observations-end
-    add-observations-requires
-    call-with-requires
-    add-number
-    put-line-requires
-    loop-less
+    (λ c κs. tt) (λ c κs. tt) (λ c. search needs) (λ c κs. tt) (λ c. search needs)
     loop-again
     same-length-2
     returns-2)

@@ -7,27 +7,6 @@ use borrow.Author.Needs.{needs}
 use Rattle.listing_lines.proofs.put_refusal.Statement.{statement}
 use Rattle.listing_lines.proofs.put_refusal.Tie as tie
 
-number-requires : tie.Need-number-requires
-number-requires c κs = tt
-
-slice-aggregate-put-bytes : tie.Need-slice-aggregate-put-bytes
-slice-aggregate-put-bytes c = refl
-
-put-bytes-requires : tie.Need-put-bytes-requires
-put-bytes-requires c κs = tt
-
-cast-wide : tie.Need-cast-wide
-cast-wide c = search needs
-
-wide-requires : tie.Need-wide-requires
-wide-requires c κs = tt
-
-put-field-requires : tie.Need-put-field-requires
-put-field-requires c κs = tt
-
-put-byte-requires : tie.Need-put-byte-requires
-put-byte-requires c κs = tt
-
 -- the puts, one after another
 whole : tie.Need-returns
 unfolding refusalLine
@@ -49,12 +28,6 @@ pub put-refusal-spec : {M : Type 1} → statement M
 put-refusal-spec =
     tie.close
     (tie.spec
-    number-requires
-    slice-aggregate-put-bytes
-    put-bytes-requires
-    cast-wide
-    wide-requires
-    put-field-requires
-    put-byte-requires
+    (λ c κs. tt) (λ c. refl) (λ c κs. tt) (λ c. search needs) (λ c κs. tt) (λ c κs. tt) (λ c κs. tt)
     same-length
     returns)

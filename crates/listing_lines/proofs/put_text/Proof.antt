@@ -9,18 +9,6 @@ use Rattle.listing_lines.specs.Tables.{linesWith, textWith}
 use Rattle.listing_lines.proofs.put_text.Statement.{statement}
 use Rattle.listing_lines.proofs.put_text.Tie as tie
 
-slice-aggregate-put-bytes : tie.Need-slice-aggregate-put-bytes
-slice-aggregate-put-bytes c = refl
-
-put-bytes-requires : tie.Need-put-bytes-requires
-put-bytes-requires c κs = tt
-
-put-lines-requires : tie.Need-put-lines-requires
-put-lines-requires c κs = tt
-
-put-umi-requires : tie.Need-put-umi-requires
-put-umi-requires c κs = tt
-
 -- the puts, one after another
 whole : tie.Need-returns
 unfolding textWith
@@ -42,9 +30,6 @@ pub put-text-spec : {M : Type 1} → statement M
 put-text-spec =
     tie.close
     (tie.spec
-    slice-aggregate-put-bytes
-    put-bytes-requires
-    put-lines-requires
-    put-umi-requires
+    (λ c. refl) (λ c κs. tt) (λ c κs. tt) (λ c κs. tt)
     same-length
     returns)

@@ -5,21 +5,6 @@ use Rattle.listing_lines.specs.Lines.{umiLine}
 use Rattle.listing_lines.proofs.put_umi.Statement.{statement}
 use Rattle.listing_lines.proofs.put_umi.Tie as tie
 
-slice-aggregate-put-bytes : tie.Need-slice-aggregate-put-bytes
-slice-aggregate-put-bytes c = refl
-
-put-bytes-requires : tie.Need-put-bytes-requires
-put-bytes-requires c κs = tt
-
-put-bytes-requires-2 : tie.Need-put-bytes-requires-2
-put-bytes-requires-2 c κs = tt
-
-slice-aggregate-put-bytes-2 : tie.Need-slice-aggregate-put-bytes-2
-slice-aggregate-put-bytes-2 c = refl
-
-put-bytes-requires-3 : tie.Need-put-bytes-requires-3
-put-bytes-requires-3 c κs = tt
-
 -- where a string differs
 whole : tie.Need-returns
 unfolding umiLine
@@ -33,12 +18,6 @@ same-length c = printed-length (whole c)
 
 returns : tie.Need-returns
 returns c = whole c
-
-slice-aggregate-put-bytes-3 : tie.Need-slice-aggregate-put-bytes-3
-slice-aggregate-put-bytes-3 c = refl
-
-put-bytes-requires-4 : tie.Need-put-bytes-requires-4
-put-bytes-requires-4 c κs = tt
 
 -- where none does
 whole-2 : tie.Need-returns-2
@@ -58,14 +37,9 @@ pub put-umi-spec : {M : Type 1} → statement M
 put-umi-spec =
     tie.close
     (tie.spec
-    slice-aggregate-put-bytes
-    put-bytes-requires
-    put-bytes-requires-2
-    slice-aggregate-put-bytes-2
-    put-bytes-requires-3
+    (λ c. refl) (λ c κs. tt) (λ c κs. tt) (λ c. refl) (λ c κs. tt)
     same-length
     returns
-    slice-aggregate-put-bytes-3
-    put-bytes-requires-4
+    (λ c. refl) (λ c κs. tt)
     same-length-2
     returns-2)

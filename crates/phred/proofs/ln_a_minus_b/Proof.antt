@@ -8,9 +8,6 @@ returns : tie.Need-returns
 unfolding lnAMinusB
 returns c = rw (c .if1 .taken)
 
-abs-requires : tie.Need-abs-requires
-abs-requires c κs = search needs
-
 returns-2 : tie.Need-returns-2
 unfolding lnAMinusB
 returns-2 c = rw (c .before .before .if1 .left, ← c .before .abs .ensures, c .if2 .taken)
@@ -19,9 +16,6 @@ returns-3 : tie.Need-returns-3
 unfolding lnAMinusB
 returns-3 c = rw (c .before .before .before .if1 .left, ← c .before .before .abs .ensures, c .before .if2 .left, c .if3 .taken)
 
-ln-one-minus-exp-requires : tie.Need-ln-one-minus-exp-requires
-ln-one-minus-exp-requires c κs = search needs
-
 returns-4 : tie.Need-returns-4
 unfolding lnAMinusB
 returns-4 c = rw (c .before .before .before .before .if1 .left, ← c .before .before .before .abs .ensures, c .before .before .if2 .left, c .before .if3 .left, c .ln-one-minus-exp .ensures)
@@ -29,4 +23,4 @@ returns-4 c = rw (c .before .before .before .before .if1 .left, ← c .before .b
 pub ln-a-minus-b-spec : {M : Type 1} → statement M
 ln-a-minus-b-spec =
     tie.close
-    (tie.spec returns abs-requires returns-2 returns-3 ln-one-minus-exp-requires returns-4)
+    (tie.spec returns (λ c κs. search needs) returns-2 returns-3 (λ c κs. search needs) returns-4)

@@ -3,11 +3,8 @@ use borrow.Author.Needs.{needs}
 use Rattle.phred.proofs.ln_error_prob_two_trials.Statement.{statement}
 use Rattle.phred.proofs.ln_error_prob_two_trials.Tie as tie
 
-two-trials-any-order-requires : tie.Need-two-trials-any-order-requires
-two-trials-any-order-requires c κs = search needs
-
 returns : tie.Need-returns
 returns c = c .two-trials-any-order .ensures
 
 pub ln-error-prob-two-trials-spec : {M : Type 1} → statement M
-ln-error-prob-two-trials-spec = tie.close (tie.spec two-trials-any-order-requires returns)
+ln-error-prob-two-trials-spec = tie.close (tie.spec (λ c κs. search needs) returns)

@@ -8,21 +8,9 @@ returns : tie.Need-returns
 unfolding lnOneMinusExp
 returns c = rw (c .if1 .taken)
 
-exp-m1-requires : tie.Need-exp-m1-requires
-exp-m1-requires c κs = search needs
-
-ln-requires : tie.Need-ln-requires
-ln-requires c κs = search needs
-
 returns-2 : tie.Need-returns-2
 unfolding lnOneMinusExp
 returns-2 c = rw (c .before .before .before .if1 .left, c .before .before .if2 .taken, ← c .before .exp-m1 .ensures) (c .ln .ensures)
-
-exp-requires : tie.Need-exp-requires
-exp-requires c κs = search needs
-
-ln-1p-requires : tie.Need-ln-1p-requires
-ln-1p-requires c κs = search needs
 
 returns-3 : tie.Need-returns-3
 unfolding lnOneMinusExp
@@ -31,4 +19,6 @@ returns-3 c = rw (c .before .before .before .if1 .left, c .before .before .if2 .
 pub ln-one-minus-exp-spec : {M : Type 1} → statement M
 ln-one-minus-exp-spec =
     tie.close
-    (tie.spec returns exp-m1-requires ln-requires returns-2 exp-requires ln-1p-requires returns-3)
+    (tie.spec
+    returns (λ c κs. search needs) (λ c κs. search needs) returns-2 (λ c κs. search needs)
+    (λ c κs. search needs) returns-3)

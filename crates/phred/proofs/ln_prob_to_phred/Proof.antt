@@ -8,18 +8,9 @@ returns : tie.Need-returns
 unfolding lnProbToPhred
 returns c = rw (c .if1 .taken)
 
-is-nan-requires : tie.Need-is-nan-requires
-is-nan-requires c κs = search needs
-
 returns-2 : tie.Need-returns-2
 unfolding lnProbToPhred
 returns-2 c = rw (c .before .before .if1 .left, ← c .before .is-nan .ensures, c .if2 .taken)
-
-floor-to-u64-requires : tie.Need-floor-to-u64-requires
-floor-to-u64-requires c κs = search needs
-
-clamp-requires : tie.Need-clamp-requires
-clamp-requires c κs = search needs
 
 returns-3 : tie.Need-returns-3
 unfolding lnProbToPhred
@@ -28,4 +19,6 @@ returns-3 c = rw (c .before .before .before .before .if1 .left, ← c .before .b
 pub ln-prob-to-phred-spec : {M : Type 1} → statement M
 ln-prob-to-phred-spec =
     tie.close
-    (tie.spec returns is-nan-requires returns-2 floor-to-u64-requires clamp-requires returns-3)
+    (tie.spec
+    returns (λ c κs. search needs) returns-2 (λ c κs. search needs) (λ c κs. search needs)
+    returns-3)

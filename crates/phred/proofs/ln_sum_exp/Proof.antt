@@ -3,11 +3,8 @@ use borrow.Author.Needs.{needs}
 use Rattle.phred.proofs.ln_sum_exp.Statement.{statement}
 use Rattle.phred.proofs.ln_sum_exp.Tie as tie
 
-ln-sum-exp-f64-requires : tie.Need-ln-sum-exp-f64-requires
-ln-sum-exp-f64-requires c κs = search needs
-
 returns : tie.Need-returns
 returns c = c .ln-sum-exp-f64 .ensures
 
 pub ln-sum-exp-spec : {M : Type 1} → statement M
-ln-sum-exp-spec = tie.close (tie.spec ln-sum-exp-f64-requires returns)
+ln-sum-exp-spec = tie.close (tie.spec (λ c κs. search needs) returns)

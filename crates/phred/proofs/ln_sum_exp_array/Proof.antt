@@ -6,15 +6,9 @@ use borrow.Author.Needs.{needs}
 use Rattle.phred.proofs.ln_sum_exp_array.Statement.{statement}
 use Rattle.phred.proofs.ln_sum_exp_array.Tie as tie
 
-all-ln-zero-requires : tie.Need-all-ln-zero-requires
-all-ln-zero-requires c κs = search needs
-
 returns : tie.Need-returns
 unfolding lnSumExpArray
 returns c = rw (← c .before .all-ln-zero .ensures, c .if1 .taken)
-
-start-lane-requires : tie.Need-start-lane-requires
-start-lane-requires c κs = search needs
 
 ln-sum-exp-from-requires : tie.Need-ln-sum-exp-from-requires
 ln-sum-exp-from-requires c κs = rw (c .start-lane .ensures) (start-inside _ (sym (c .before .before .all-ln-zero .ensures) ∙ c .before .if1 .left))
@@ -26,4 +20,5 @@ returns-2 c = rw (← c .before .before .before .all-ln-zero .ensures, c .before
 pub ln-sum-exp-array-spec : {M : Type 1} → statement M
 ln-sum-exp-array-spec =
     tie.close
-    (tie.spec all-ln-zero-requires returns start-lane-requires ln-sum-exp-from-requires returns-2)
+    (tie.spec
+    (λ c κs. search needs) returns (λ c κs. search needs) ln-sum-exp-from-requires returns-2)

@@ -16,15 +16,9 @@ returns-3 : tie.Need-returns-3
 unfolding lnSumExp
 returns-3 c = rw (c .before .before .if1 .left, c .before .if2 .left, c .if3 .taken)
 
-log1pexp-requires : tie.Need-log1pexp-requires
-log1pexp-requires c κs = search needs
-
 returns-4 : tie.Need-returns-4
 unfolding lnSumExp lnSumExpGeneral
 returns-4 c = rw (c .before .before .before .before .if1 .left, c .before .before .before .if2 .left, c .before .before .if3 .left, c .before .if4 .taken, c .log1pexp .ensures)
-
-log1pexp-requires-2 : tie.Need-log1pexp-requires-2
-log1pexp-requires-2 c κs = search needs
 
 returns-5 : tie.Need-returns-5
 unfolding lnSumExp lnSumExpGeneral
@@ -37,7 +31,7 @@ ln-sum-exp-f64-spec =
     returns
     returns-2
     returns-3
-    log1pexp-requires
+    (λ c κs. search needs)
     returns-4
-    log1pexp-requires-2
+    (λ c κs. search needs)
     returns-5)

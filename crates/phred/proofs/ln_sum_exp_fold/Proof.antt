@@ -18,21 +18,6 @@ abbrev μ-loop : tie.MeasureT-loop
 loop-holds : tie.Need-loop-holds Inv-loop μ-loop
 loop-holds c = (omega arith, refl)
 
-mul-ln-sum-exp-f64 : tie.Need-mul-ln-sum-exp-f64 Inv-loop μ-loop
-mul-ln-sum-exp-f64 c = search needs
-
-shared-slice-read-ln-sum-exp-f64 : tie.Need-shared-slice-read-ln-sum-exp-f64 Inv-loop μ-loop
-shared-slice-read-ln-sum-exp-f64 c = search needs
-
-ln-sum-exp-f64-requires : tie.Need-ln-sum-exp-f64-requires Inv-loop μ-loop
-ln-sum-exp-f64-requires c κs = search needs
-
-add-i : tie.Need-add-i Inv-loop μ-loop
-add-i c = omega arith
-
-loop-less : tie.Need-loop-less Inv-loop μ-loop
-loop-less c = omega arith
-
 loop-again : tie.Need-loop-again Inv-loop μ-loop
 loop-again c =
     let l = c .before .before .before .loop in
@@ -48,10 +33,7 @@ ln-sum-exp-fold-spec =
     Inv-loop
     μ-loop
     loop-holds
-    mul-ln-sum-exp-f64
-    shared-slice-read-ln-sum-exp-f64
-    ln-sum-exp-f64-requires
-    add-i
-    loop-less
+    (λ c. search needs) (λ c. search needs) (λ c κs. search needs) (λ c. omega arith)
+    (λ c. omega arith)
     loop-again
     returns)

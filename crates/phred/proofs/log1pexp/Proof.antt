@@ -4,25 +4,13 @@ use borrow.Author.Needs.{needs}
 use Rattle.phred.proofs.log1pexp.Statement.{statement}
 use Rattle.phred.proofs.log1pexp.Tie as tie
 
-exp-requires : tie.Need-exp-requires
-exp-requires c κs = search needs
-
 returns : tie.Need-returns
 unfolding log1pexpOf
 returns c = rw (c .before .if1 .taken) (c .exp .ensures)
 
-exp-requires-2 : tie.Need-exp-requires-2
-exp-requires-2 c κs = search needs
-
-ln-1p-requires : tie.Need-ln-1p-requires
-ln-1p-requires c κs = search needs
-
 returns-2 : tie.Need-returns-2
 unfolding log1pexpOf
 returns-2 c = rw (c .before .before .before .if1 .left, c .before .before .if2 .taken, ← c .before .exp2 .ensures) (c .ln-1p .ensures)
-
-exp-requires-3 : tie.Need-exp-requires-3
-exp-requires-3 c κs = search needs
 
 returns-3 : tie.Need-returns-3
 unfolding log1pexpOf
@@ -36,11 +24,10 @@ pub log1pexp-spec : {M : Type 1} → statement M
 log1pexp-spec =
     tie.close
     (tie.spec
-    exp-requires
+    (λ c κs. search needs)
     returns
-    exp-requires-2
-    ln-1p-requires
+    (λ c κs. search needs) (λ c κs. search needs)
     returns-2
-    exp-requires-3
+    (λ c κs. search needs)
     returns-3
     returns-4)

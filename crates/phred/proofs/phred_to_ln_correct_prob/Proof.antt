@@ -4,16 +4,10 @@ use borrow.Author.Needs.{needs}
 use Rattle.phred.proofs.phred_to_ln_correct_prob.Statement.{statement}
 use Rattle.phred.proofs.phred_to_ln_correct_prob.Tie as tie
 
-phred-to-ln-error-prob-requires : tie.Need-phred-to-ln-error-prob-requires
-phred-to-ln-error-prob-requires c κs = search needs
-
-ln-one-minus-exp-requires : tie.Need-ln-one-minus-exp-requires
-ln-one-minus-exp-requires c κs = search needs
-
 returns : tie.Need-returns
 unfolding phredToLnCorrectProb
 returns c = rw (← c .before .phred-to-ln-error-prob .ensures) (c .ln-one-minus-exp .ensures)
 
 pub phred-to-ln-correct-prob-spec : {M : Type 1} → statement M
 phred-to-ln-correct-prob-spec =
-    tie.close (tie.spec phred-to-ln-error-prob-requires ln-one-minus-exp-requires returns)
+    tie.close (tie.spec (λ c κs. search needs) (λ c κs. search needs) returns)

@@ -5,12 +5,9 @@ use borrow.Author.Needs.{needs}
 use Rattle.phred.proofs.phred_to_ln_error_prob.Statement.{statement}
 use Rattle.phred.proofs.phred_to_ln_error_prob.Tie as tie
 
-int-to-float-t2 : tie.Need-int-to-float-t2
-int-to-float-t2 c = search needs
-
 returns : tie.Need-returns
 unfolding phredToLnErrorProb
 returns c = refl
 
 pub phred-to-ln-error-prob-spec : {M : Type 1} → statement M
-phred-to-ln-error-prob-spec = tie.close (tie.spec int-to-float-t2 returns)
+phred-to-ln-error-prob-spec = tie.close (tie.spec (λ c. search needs) returns)

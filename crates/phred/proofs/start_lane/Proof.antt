@@ -19,21 +19,6 @@ loop-holds : tie.Need-loop-holds Inv-loop μ-loop
 unfolding startLane
 loop-holds c = (omega arith, refl)
 
-mul-lower : tie.Need-mul-lower Inv-loop μ-loop
-mul-lower c = search needs
-
-shared-slice-read-lower : tie.Need-shared-slice-read-lower Inv-loop μ-loop
-shared-slice-read-lower c = search needs
-
-lower-requires : tie.Need-lower-requires Inv-loop μ-loop
-lower-requires c κs = search needs
-
-add-i : tie.Need-add-i Inv-loop μ-loop
-add-i c = omega arith
-
-loop-less : tie.Need-loop-less Inv-loop μ-loop
-loop-less c = omega arith
-
 loop-again : tie.Need-loop-again Inv-loop μ-loop
 loop-again c =
     let l = c .before .before .before .loop in
@@ -49,10 +34,7 @@ start-lane-spec =
     Inv-loop
     μ-loop
     loop-holds
-    mul-lower
-    shared-slice-read-lower
-    lower-requires
-    add-i
-    loop-less
+    (λ c. search needs) (λ c. search needs) (λ c κs. search needs) (λ c. omega arith)
+    (λ c. omega arith)
     loop-again
     returns)

@@ -8,15 +8,12 @@ returns : tie.Need-returns
 unfolding twoTrials
 returns c = rw (c .if1 .taken)
 
-ln-sum-exp-f64-requires : tie.Need-ln-sum-exp-f64-requires
-ln-sum-exp-f64-requires c κs = search needs
-
-ln-a-minus-b-requires : tie.Need-ln-a-minus-b-requires
-ln-a-minus-b-requires c κs = search needs
-
 returns-2 : tie.Need-returns-2
 unfolding twoTrials
 returns-2 c = rw (c .before .before .if1 .left, ← c .before .ln-sum-exp-f64 .ensures) (c .ln-a-minus-b .ensures)
 
 pub two-trials-spec : {M : Type 1} → statement M
-two-trials-spec = tie.close (tie.spec returns ln-sum-exp-f64-requires ln-a-minus-b-requires returns-2)
+two-trials-spec =
+    tie.close
+    (tie.spec
+    returns (λ c κs. search needs) (λ c κs. search needs) returns-2)

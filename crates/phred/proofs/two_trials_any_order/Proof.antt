@@ -4,15 +4,9 @@ use borrow.Author.Needs.{needs}
 use Rattle.phred.proofs.two_trials_any_order.Statement.{statement}
 use Rattle.phred.proofs.two_trials_any_order.Tie as tie
 
-two-trials-requires : tie.Need-two-trials-requires
-two-trials-requires c κs = search needs
-
 returns : tie.Need-returns
 unfolding lnErrorProbTwoTrials
 returns c = rw (c .before .if1 .taken) (c .two-trials .ensures)
-
-two-trials-requires-2 : tie.Need-two-trials-requires-2
-two-trials-requires-2 c κs = search needs
 
 returns-2 : tie.Need-returns-2
 unfolding lnErrorProbTwoTrials
@@ -20,4 +14,4 @@ returns-2 c = rw (c .before .if1 .left) (c .two-trials2 .ensures)
 
 pub two-trials-any-order-spec : {M : Type 1} → statement M
 two-trials-any-order-spec =
-    tie.close (tie.spec two-trials-requires returns two-trials-requires-2 returns-2)
+    tie.close (tie.spec (λ c κs. search needs) returns (λ c κs. search needs) returns-2)

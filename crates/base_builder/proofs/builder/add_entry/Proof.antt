@@ -5,24 +5,12 @@ use borrow.Author.Needs.{needs}
 use Rattle.base_builder.proofs.builder.add_entry.Statement.{statement}
 use Rattle.base_builder.proofs.builder.add_entry.Tie as tie
 
-lane-of-requires : tie.Need-lane-of-requires
-lane-of-requires c κs = search needs
-
-kept-requires : tie.Need-kept-requires
-kept-requires c κs = search needs
-
 returns : tie.Need-returns
 unfolding addedBy answerOf refusalOf
 returns c =
     let k = c .before .before .lane-of .ensures in
     let n = eq-eqb _ _ (c .before .if1 .taken) in
     (rw (← k, n) (c .kept .ensures), (rw (← k, n), rw (← k, n)))
-
-total-requires : tie.Need-total-requires
-total-requires c κs = search needs
-
-kept-requires-2 : tie.Need-kept-requires-2
-kept-requires-2 c κs = search needs
 
 returns-2 : tie.Need-returns-2
 unfolding addedBy answerOf refusalOf isFull
@@ -32,9 +20,6 @@ returns-2 c =
     let t = c .before .before .total .ensures in
     let f = le-leb _ _ (c .before .if2 .taken) in
     (rw (← k, n, ← t, f) (c .kept2 .ensures), (rw (← k, n, ← t, f), rw (← k, n, ← t, f)))
-
-observed-requires : tie.Need-observed-requires
-observed-requires c κs = search needs
 
 returns-3 : tie.Need-returns-3
 unfolding addedBy answerOf refusalOf isFull
@@ -49,11 +34,9 @@ pub add-entry-spec : {M : Type 1} → statement M
 add-entry-spec =
     tie.close
     (tie.spec
-    lane-of-requires
-    kept-requires
+    (λ c κs. search needs) (λ c κs. search needs)
     returns
-    total-requires
-    kept-requires-2
+    (λ c κs. search needs) (λ c κs. search needs)
     returns-2
-    observed-requires
+    (λ c κs. search needs)
     returns-3)

@@ -4,12 +4,9 @@ use Rattle.base_builder.specs.Builder.{withTieRule}
 use Rattle.base_builder.proofs.builder.kept.Statement.{statement}
 use Rattle.base_builder.proofs.builder.kept.Tie as tie
 
-with-tie-rule-requires : tie.Need-with-tie-rule-requires
-with-tie-rule-requires c κs = search needs
-
 returns : tie.Need-returns
 unfolding withTieRule
 returns c = c .with-tie-rule .ensures
 
 pub kept-spec : {M : Type 1} → statement M
-kept-spec = tie.close (tie.spec with-tie-rule-requires returns)
+kept-spec = tie.close (tie.spec (λ c κs. search needs) returns)

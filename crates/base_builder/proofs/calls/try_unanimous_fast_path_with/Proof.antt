@@ -4,12 +4,9 @@ use Rattle.base_builder.specs.Calls.{unanimousOf}
 use Rattle.base_builder.proofs.calls.try_unanimous_fast_path_with.Statement.{statement}
 use Rattle.base_builder.proofs.calls.try_unanimous_fast_path_with.Tie as tie
 
-try-unanimous-fast-path-requires : tie.Need-try-unanimous-fast-path-requires
-try-unanimous-fast-path-requires c κs = search needs
-
 returns : tie.Need-returns
 unfolding unanimousOf
 returns c = c .try-unanimous-fast-path .ensures
 
 pub try-unanimous-fast-path-with-spec : {M : Type 1} → statement M
-try-unanimous-fast-path-with-spec = tie.close (tie.spec try-unanimous-fast-path-requires returns)
+try-unanimous-fast-path-with-spec = tie.close (tie.spec (λ c κs. search needs) returns)

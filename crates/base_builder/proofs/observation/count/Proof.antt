@@ -5,9 +5,6 @@ use borrow.Author.Needs.{needs}
 use Rattle.base_builder.proofs.observation.count.Statement.{statement}
 use Rattle.base_builder.proofs.observation.count.Tie as tie
 
-wrapping-add-u32-requires : tie.Need-wrapping-add-u32-requires
-wrapping-add-u32-requires c κs = search needs
-
 returns : tie.Need-returns
 unfolding countOf
 returns c = rw (eq-eqb _ _ (c .before .if1 .taken)) (c .wrapping-add-u32 .ensures)
@@ -17,4 +14,4 @@ unfolding countOf
 returns-2 c = rw (ne-eqb _ _ (c .if1 .left))
 
 pub count-spec : {M : Type 1} → statement M
-count-spec = tie.close (tie.spec wrapping-add-u32-requires returns returns-2)
+count-spec = tie.close (tie.spec (λ c κs. search needs) returns returns-2)

@@ -37,15 +37,6 @@ inside c =
 loop-holds : tie.Need-loop-holds Inv-loop μ-loop
 loop-holds c = (refl, search needs)
 
-column-at-requires : tie.Need-column-at-requires Inv-loop μ-loop
-column-at-requires c κs = search needs
-
-enum-known-next : tie.Need-enum-known-next Inv-loop μ-loop
-enum-known-next c = search needs
-
-enum-told : tie.Need-enum-told Inv-loop μ-loop
-enum-told c = search needs
-
 returns : tie.Need-returns Inv-loop μ-loop
 returns c =
     let l = c .before .before .before .before .loop in
@@ -60,32 +51,8 @@ mul-end c = omega (arith, inside c)
 add-end : tie.Need-add-end Inv-loop μ-loop
 add-end c = omega (arith, inside c)
 
-sub-add-observations : tie.Need-sub-add-observations Inv-loop μ-loop
-sub-add-observations c = search needs
-
-part-add-observations-start : tie.Need-part-add-observations-start Inv-loop μ-loop
-part-add-observations-start c = search needs
-
 part-add-observations-end : tie.Need-part-add-observations-end Inv-loop μ-loop
 part-add-observations-end c = inside c
-
-add-observations-requires : tie.Need-add-observations-requires Inv-loop μ-loop
-add-observations-requires c κs = search needs
-
-call-with-requires : tie.Need-call-with-requires Inv-loop μ-loop
-call-with-requires c κs = search needs
-
-amount-requires : tie.Need-amount-requires Inv-loop μ-loop
-amount-requires c κs = search needs
-
-wrapping-add-u64-requires : tie.Need-wrapping-add-u64-requires Inv-loop μ-loop
-wrapping-add-u64-requires c κs = search needs
-
-sub-left : tie.Need-sub-left Inv-loop μ-loop
-sub-left c = search needs
-
-loop-less : tie.Need-loop-less Inv-loop μ-loop
-loop-less c = search needs
 
 loop-again : tie.Need-loop-again Inv-loop μ-loop
 loop-again c =
@@ -120,20 +87,13 @@ add-round-spec =
     Inv-loop
     μ-loop
     loop-holds
-    column-at-requires
-    enum-known-next
-    enum-told
+    (λ c κs. search needs) (λ c. search needs) (λ c. search needs)
     returns
     mul-end
     add-end
-    sub-add-observations
-    part-add-observations-start
+    (λ c. search needs) (λ c. search needs)
     part-add-observations-end
-    add-observations-requires
-    call-with-requires
-    amount-requires
-    wrapping-add-u64-requires
-    sub-left
-    loop-less
+    (λ c κs. search needs) (λ c κs. search needs) (λ c κs. search needs) (λ c κs. search needs)
+    (λ c. search needs) (λ c. search needs)
     loop-again
     returns-2)

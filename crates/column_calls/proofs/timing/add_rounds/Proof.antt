@@ -21,15 +21,6 @@ abbrev μ-loop : tie.MeasureT-loop
 loop-holds : tie.Need-loop-holds Inv-loop μ-loop
 loop-holds c = (omega arith, omega arith)
 
-add-round-requires : tie.Need-add-round-requires Inv-loop μ-loop
-add-round-requires c κs = search needs
-
-add-n : tie.Need-add-n Inv-loop μ-loop
-add-n c = search needs
-
-loop-less : tie.Need-loop-less Inv-loop μ-loop
-loop-less c = search needs
-
 loop-again : tie.Need-loop-again Inv-loop μ-loop
 loop-again c =
     let l = c .before .before .loop in
@@ -46,4 +37,8 @@ returns c =
     rw e at (l .inv .1)
 
 pub add-rounds-spec : {M : Type 1} → statement M
-add-rounds-spec = tie.close (tie.spec Inv-loop μ-loop loop-holds add-round-requires add-n loop-less loop-again returns)
+add-rounds-spec =
+    tie.close
+    (tie.spec
+    Inv-loop μ-loop loop-holds (λ c κs. search needs) (λ c. search needs) (λ c. search needs)
+    loop-again returns)

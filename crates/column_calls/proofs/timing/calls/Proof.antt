@@ -6,18 +6,6 @@ use borrow.Author.Needs.{needs}
 use Rattle.column_calls.proofs.timing.calls.Statement.{statement}
 use Rattle.column_calls.proofs.timing.calls.Tie as tie
 
-read-requires : tie.Need-read-requires
-read-requires c κs = search needs
-
-enum-told : tie.Need-enum-told
-enum-told c = search needs
-
-enum-known-reading : tie.Need-enum-known-reading
-enum-known-reading c = search needs
-
-times-accepted-requires : tie.Need-times-accepted-requires
-times-accepted-requires c κs = search needs
-
 returns : tie.Need-returns
 returns c =
     let r = c .before .before .read in
@@ -35,4 +23,6 @@ returns-2 c =
 pub calls-spec : {M : Type 1} → statement M
 calls-spec =
     tie.close
-    (tie.spec read-requires enum-told enum-known-reading times-accepted-requires returns returns-2)
+    (tie.spec
+    (λ c κs. search needs) (λ c. search needs) (λ c. search needs) (λ c κs. search needs) returns
+    returns-2)

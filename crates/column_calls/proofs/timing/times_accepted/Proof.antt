@@ -5,21 +5,6 @@ use borrow.Author.Needs.{needs}
 use Rattle.column_calls.proofs.timing.times_accepted.Statement.{statement}
 use Rattle.column_calls.proofs.timing.times_accepted.Tie as tie
 
-compute-requires : tie.Need-compute-requires
-compute-requires c κs = search needs
-
-build-unanimous-gap-tables-requires : tie.Need-build-unanimous-gap-tables-requires
-build-unanimous-gap-tables-requires c κs = search needs
-
-windows-requires : tie.Need-windows-requires
-windows-requires c κs = search needs
-
-start-requires : tie.Need-start-requires
-start-requires c κs = search needs
-
-add-rounds-requires : tie.Need-add-rounds-requires
-add-rounds-requires c κs = search needs
-
 returns : tie.Need-returns
 returns c =
     let at-start = c .before .before .before .before in
@@ -42,9 +27,6 @@ pub times-accepted-spec : {M : Type 1} → statement M
 times-accepted-spec =
     tie.close
     (tie.spec
-    compute-requires
-    build-unanimous-gap-tables-requires
-    windows-requires
-    start-requires
-    add-rounds-requires
+    (λ c κs. search needs) (λ c κs. search needs) (λ c κs. search needs) (λ c κs. search needs)
+    (λ c κs. search needs)
     returns)

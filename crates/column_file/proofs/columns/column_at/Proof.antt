@@ -9,29 +9,11 @@ use Rattle.column_file.proofs.columns.column_at.Tie as tie
 returns : tie.Need-returns
 returns c = place-said _ _ _ (place-past _ _ (omega arith))
 
-sub-if2 : tie.Need-sub-if2
-sub-if2 c = search needs
-
 returns-2 : tie.Need-returns-2
 returns-2 c = place-said _ _ _ (place-past _ _ (omega arith))
 
-word-at-requires : tie.Need-word-at-requires
-word-at-requires c κs = search needs
-
-sub-if3 : tie.Need-sub-if3
-sub-if3 c = search needs
-
-sub-if3-2 : tie.Need-sub-if3-2
-sub-if3-2 c = search needs
-
-mul-if3 : tie.Need-mul-if3
-mul-if3 c = search needs
-
 returns-3 : tie.Need-returns-3
 returns-3 c = place-said _ _ _ (place-past _ _ (omega arith))
-
-add-t4 : tie.Need-add-t4
-add-t4 c = search needs
 
 returns-4 : tie.Need-returns-4
 returns-4 c = place-said _ _ _ (place-at _ _ (c .before .word-at .result) (c .before .word-at .ensures .0) (omega arith))
@@ -41,12 +23,9 @@ column-at-spec =
     tie.close
     (tie.spec
     returns
-    sub-if2
+    (λ c. search needs)
     returns-2
-    word-at-requires
-    sub-if3
-    sub-if3-2
-    mul-if3
+    (λ c κs. search needs) (λ c. search needs) (λ c. search needs) (λ c. search needs)
     returns-3
-    add-t4
+    (λ c. search needs)
     returns-4)

@@ -19,26 +19,11 @@ abbrev μ-loop : tie.MeasureT-loop
 loop-holds : tie.Need-loop-holds Inv-loop μ-loop
 loop-holds c = (omega arith, refl)
 
-add-if1 : tie.Need-add-if1 Inv-loop μ-loop
-add-if1 c = omega arith
-
-shared-slice-read-if1 : tie.Need-shared-slice-read-if1 Inv-loop μ-loop
-shared-slice-read-if1 c = omega arith
-
 returns : tie.Need-returns Inv-loop μ-loop
 returns c =
     let l = c .before .before .before .loop in
     let s = c .before .before .before .before .args .file .now in
     sym (verdict-here s (l .place) (l .left) (omega arith) (c .if1 .taken)) ∙ l .inv .1
-
-add-place : tie.Need-add-place Inv-loop μ-loop
-add-place c = omega arith
-
-sub-left : tie.Need-sub-left Inv-loop μ-loop
-sub-left c = omega arith
-
-loop-less : tie.Need-loop-less Inv-loop μ-loop
-loop-less c = omega arith
 
 loop-again : tie.Need-loop-again Inv-loop μ-loop
 loop-again c =
@@ -59,11 +44,8 @@ column-verdict-spec =
     Inv-loop
     μ-loop
     loop-holds
-    add-if1
-    shared-slice-read-if1
+    (λ c. omega arith) (λ c. omega arith)
     returns
-    add-place
-    sub-left
-    loop-less
+    (λ c. omega arith) (λ c. omega arith) (λ c. omega arith)
     loop-again
     returns-2)

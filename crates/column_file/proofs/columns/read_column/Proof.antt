@@ -22,15 +22,6 @@ inside c =
 returns : tie.Need-returns
 returns c = column-said _ _ (ap columnReadingOf (sym (read-long _ (c .if1 .taken))))
 
-column-at-requires : tie.Need-column-at-requires
-column-at-requires c κs = search needs
-
-enum-known-place : tie.Need-enum-known-place
-enum-known-place c = search needs
-
-enum-told : tie.Need-enum-told
-enum-told c = search needs
-
 returns-2 : tie.Need-returns-2
 returns-2 c =
     let s = c .before .before .before .before .before .args .part .now in
@@ -52,12 +43,6 @@ returns-3 c =
 
 column-verdict-requires : tie.Need-column-verdict-requires
 column-verdict-requires c κs = inside (c .before)
-
-enum-known-verdict : tie.Need-enum-known-verdict
-enum-known-verdict c = search needs
-
-enum-told-2 : tie.Need-enum-told-2
-enum-told-2 c = search needs
 
 returns-4 : tie.Need-returns-4
 returns-4 c =
@@ -84,15 +69,12 @@ read-column-spec =
     tie.close
     (tie.spec
     returns
-    column-at-requires
-    enum-known-place
-    enum-told
+    (λ c κs. search needs) (λ c. search needs) (λ c. search needs)
     returns-2
     mul-if2
     add-if2
     returns-3
     column-verdict-requires
-    enum-known-verdict
-    enum-told-2
+    (λ c. search needs) (λ c. search needs)
     returns-4
     returns-5)

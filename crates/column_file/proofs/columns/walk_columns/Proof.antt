@@ -32,12 +32,6 @@ inside c =
 loop-holds : tie.Need-loop-holds Inv-loop μ-loop
 loop-holds c = (omega arith, refl)
 
-column-at-requires : tie.Need-column-at-requires Inv-loop μ-loop
-column-at-requires c κs = search needs
-
-enum-told : tie.Need-enum-told Inv-loop μ-loop
-enum-told c = search needs
-
 returns : tie.Need-returns Inv-loop μ-loop
 returns c =
     let l = c .before .before .before .before .loop in
@@ -46,26 +40,14 @@ returns c =
     let none = column-none s (l .place) (r .result) (r .ensures .0) (c .enum-told .given .1) in
     sym (walk-cut s (l .place) (l .verdict) (l .left) (omega arith) none) ∙ l .inv .1
 
-enum-known-start : tie.Need-enum-known-start Inv-loop μ-loop
-enum-known-start c = search needs
-
 column-verdict-requires : tie.Need-column-verdict-requires Inv-loop μ-loop
 column-verdict-requires c κs = inside c
-
-or-else-requires : tie.Need-or-else-requires Inv-loop μ-loop
-or-else-requires c κs = search needs
 
 mul-place : tie.Need-mul-place Inv-loop μ-loop
 mul-place c = omega (arith, inside (c .before .before))
 
 add-place : tie.Need-add-place Inv-loop μ-loop
 add-place c = omega (arith, inside (c .before .before))
-
-sub-left : tie.Need-sub-left Inv-loop μ-loop
-sub-left c = omega arith
-
-loop-less : tie.Need-loop-less Inv-loop μ-loop
-loop-less c = omega arith
 
 loop-again : tie.Need-loop-again Inv-loop μ-loop
 loop-again c =
@@ -95,15 +77,13 @@ walk-columns-spec =
     Inv-loop
     μ-loop
     loop-holds
-    column-at-requires
-    enum-told
+    (λ c κs. search needs) (λ c. search needs)
     returns
-    enum-known-start
+    (λ c. search needs)
     column-verdict-requires
-    or-else-requires
+    (λ c κs. search needs)
     mul-place
     add-place
-    sub-left
-    loop-less
+    (λ c. omega arith) (λ c. omega arith)
     loop-again
     returns-2)

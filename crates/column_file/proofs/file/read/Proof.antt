@@ -23,15 +23,6 @@ returns c =
     let s = c .before .before .args .file .now in
     file-said s _ (ap readingOf (sym (file-long s (c .if1 .taken))))
 
-sections-of-requires : tie.Need-sections-of-requires
-sections-of-requires c κs = search needs
-
-enum-known-found : tie.Need-enum-known-found
-enum-known-found c = search needs
-
-enum-told : tie.Need-enum-told
-enum-told c = search needs
-
 returns-2 : tie.Need-returns-2
 returns-2 c =
     let s = c .before .before .before .before .before .args .file .now in
@@ -43,24 +34,12 @@ settled-at-requires c κs =
     let d = where-found c in
     parts (c .before .before .before .before .before .before .args .file .now) (omega arith) (d .sections) (d .is) .reaches
 
-enum-known-tested : tie.Need-enum-known-tested
-enum-known-tested c = search needs
-
-enum-told-2 : tie.Need-enum-told-2
-enum-told-2 c = search needs
-
 returns-3 : tie.Need-returns-3
 returns-3 c =
     let s = c .before .before .before .before .before .before .before .before .before .args .file .now in
     let d = where-found (c .before .before .before) in
     let bad = is-refused (settingsOf (bytesOf s)) _ (sym (c .before .before .settled-at .ensures) ∙ c .enum-told2 .given .1) in
     file-said s _ (ap readingOf (sym (file-unsettled s (omega arith) (d .sections) (d .is) _ bad)))
-
-enum-known-verdict : tie.Need-enum-known-verdict
-enum-known-verdict c = search needs
-
-enum-told-3 : tie.Need-enum-told-3
-enum-told-3 c = search needs
 
 returns-4 : tie.Need-returns-4
 returns-4 c =
@@ -83,15 +62,11 @@ read-spec =
     tie.close
     (tie.spec
     returns
-    sections-of-requires
-    enum-known-found
-    enum-told
+    (λ c κs. search needs) (λ c. search needs) (λ c. search needs)
     returns-2
     settled-at-requires
-    enum-known-tested
-    enum-told-2
+    (λ c. search needs) (λ c. search needs)
     returns-3
-    enum-known-verdict
-    enum-told-3
+    (λ c. search needs) (λ c. search needs)
     returns-4
     returns-5)

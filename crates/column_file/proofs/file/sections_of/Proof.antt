@@ -30,15 +30,6 @@ walk c =
     let end = c .before .walked .given in
     walk-at s (start .0) (start .1 .0) (end .0 .0) (end .0 .1 .0) (omega arith) (sym (end .1) ∙ c .before .before .before .walk-columns .ensures)
 
-head-of-requires : tie.Need-head-of-requires
-head-of-requires c κs = search needs
-
-enum-known-start : tie.Need-enum-known-start
-enum-known-start c = search needs
-
-enum-told : tie.Need-enum-told
-enum-told c = search needs
-
 returns : tie.Need-returns
 returns c =
     let s = c .before .before .before .before .args .file .now in
@@ -47,12 +38,6 @@ returns c =
 
 walk-columns-requires : tie.Need-walk-columns-requires
 walk-columns-requires c κs = omega (arith, head c)
-
-enum-known-walked : tie.Need-enum-known-walked
-enum-known-walked c = search needs
-
-enum-told-2 : tie.Need-enum-told-2
-enum-told-2 c = search needs
 
 returns-2 : tie.Need-returns-2
 returns-2 c =
@@ -64,18 +49,6 @@ sub-read c = walk c .inside
 
 part-read-start : tie.Need-part-read-start
 part-read-start c = walk c .inside
-
-part-read-end : tie.Need-part-read-end
-part-read-end c = search needs
-
-read-requires : tie.Need-read-requires
-read-requires c κs = search needs
-
-enum-told-3 : tie.Need-enum-told-3
-enum-told-3 c = search needs
-
-enum-told-4 : tie.Need-enum-told-4
-enum-told-4 c = search needs
 
 returns-3 : tie.Need-returns-3
 returns-3 c =
@@ -100,19 +73,13 @@ pub sections-of-spec : {M : Type 1} → statement M
 sections-of-spec =
     tie.close
     (tie.spec
-    head-of-requires
-    enum-known-start
-    enum-told
+    (λ c κs. search needs) (λ c. search needs) (λ c. search needs)
     returns
     walk-columns-requires
-    enum-known-walked
-    enum-told-2
+    (λ c. search needs) (λ c. search needs)
     returns-2
     sub-read
     part-read-start
-    part-read-end
-    read-requires
-    enum-told-3
-    enum-told-4
+    (λ c. search needs) (λ c κs. search needs) (λ c. search needs) (λ c. search needs)
     returns-3
     returns-4)

@@ -13,15 +13,6 @@ use Rattle.column_file.proofs.settings.read_settings.Tie as tie
 returns : tie.Need-returns
 returns c = settings-said _ _ (ap settingsReadingOf (sym (read-long _ (c .if1 .taken))))
 
-head-of-requires : tie.Need-head-of-requires
-head-of-requires c κs = search needs
-
-enum-known-start : tie.Need-enum-known-start
-enum-known-start c = search needs
-
-enum-told : tie.Need-enum-told
-enum-told c = search needs
-
 returns-2 : tie.Need-returns-2
 returns-2 c =
     let s = c .before .before .before .before .before .args .part .now in
@@ -40,12 +31,6 @@ settled-at-requires c κs =
     let s = c .before .before .before .before .before .before .before .args .part .now in
     let r = c .before .before .before .before .head-of in
     said-at s (r .result) (r .ensures) _ _ (c .before .before .start .given .1) .2
-
-enum-known-tested : tie.Need-enum-known-tested
-enum-known-tested c = search needs
-
-enum-known-tested-2 : tie.Need-enum-known-tested-2
-enum-known-tested-2 c = search needs
 
 returns-4 : tie.Need-returns-4
 returns-4 c =
@@ -68,13 +53,10 @@ read-settings-spec =
     tie.close
     (tie.spec
     returns
-    head-of-requires
-    enum-known-start
-    enum-told
+    (λ c κs. search needs) (λ c. search needs) (λ c. search needs)
     returns-2
     returns-3
     settled-at-requires
-    enum-known-tested
-    enum-known-tested-2
+    (λ c. search needs) (λ c. search needs)
     returns-4
     returns-5)

@@ -5,26 +5,11 @@ use Rattle.column_file.proofs.SettingsRead.{settled-other, settled-rule
 use Rattle.column_file.proofs.settings.settled_at.Statement.{statement}
 use Rattle.column_file.proofs.settings.settled_at.Tie as tie
 
-shared-slice-read-if1 : tie.Need-shared-slice-read-if1
-shared-slice-read-if1 c = search needs
-
 returns : tie.Need-returns
 returns c = settled-other (c .before .before .before .args .file .now) (omega arith) (c .if1 .taken)
 
-shared-slice-read-rule : tie.Need-shared-slice-read-rule
-shared-slice-read-rule c = search needs
-
 returns-2 : tie.Need-returns-2
 returns-2 c = settled-rule (c .before .before .before .before .before .args .file .now) (omega arith) (omega arith) (c .if2 .taken)
-
-shared-slice-read-t4 : tie.Need-shared-slice-read-t4
-shared-slice-read-t4 c = search needs
-
-shared-slice-read-t12 : tie.Need-shared-slice-read-t12
-shared-slice-read-t12 c = search needs
-
-rule-of-requires : tie.Need-rule-of-requires
-rule-of-requires c κs = search needs
 
 returns-3 : tie.Need-returns-3
 returns-3 c =
@@ -35,11 +20,9 @@ pub settled-at-spec : {M : Type 1} → statement M
 settled-at-spec =
     tie.close
     (tie.spec
-    shared-slice-read-if1
+    (λ c. search needs)
     returns
-    shared-slice-read-rule
+    (λ c. search needs)
     returns-2
-    shared-slice-read-t4
-    shared-slice-read-t12
-    rule-of-requires
+    (λ c. search needs) (λ c. search needs) (λ c κs. search needs)
     returns-3)

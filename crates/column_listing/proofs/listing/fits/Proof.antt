@@ -8,20 +8,8 @@ use Rattle.column_listing.proofs.Outcomes.{fits-short}
 use Rattle.column_listing.proofs.listing.fits.Statement.{statement}
 use Rattle.column_listing.proofs.listing.fits.Tie as tie
 
-mul-if1 : tie.Need-mul-if1
-mul-if1 c = search needs
-
-add-if1 : tie.Need-add-if1
-add-if1 c = search needs
-
 returns : tie.Need-returns
 returns c = fits-short _ _ _ (c .before .before .before .pre .1) (c .if1 .taken)
-
-slice-aggregate-put-text : tie.Need-slice-aggregate-put-text
-slice-aggregate-put-text c = search needs
-
-put-text-requires : tie.Need-put-text-requires
-put-text-requires c κs = search needs
 
 returns-2 : tie.Need-returns-2
 returns-2 c =
@@ -32,9 +20,7 @@ pub fits-spec : {M : Type 1} → statement M
 fits-spec =
     tie.close
     (tie.spec
-    mul-if1
-    add-if1
+    (λ c. search needs) (λ c. search needs)
     returns
-    slice-aggregate-put-text
-    put-text-requires
+    (λ c. search needs) (λ c κs. search needs)
     returns-2)

@@ -19,12 +19,6 @@ line-there c =
     let n = refusal-length (c .before .before .before .args .refusal) in
     (printed-written p (omega arith) .0, printed-front p (omega arith))
 
-slice-aggregate-put-refusal : tie.Need-slice-aggregate-put-refusal
-slice-aggregate-put-refusal c = search needs
-
-put-refusal-requires : tie.Need-put-refusal-requires
-put-refusal-requires c κs = search needs
-
 array-share-prefix-aside : tie.Need-array-share-prefix-aside
 array-share-prefix-aside c =
     let p = c .before .before in
@@ -35,21 +29,12 @@ slice-aggregate-write-front c =
     let p = c .before .before .before in
     line-there p .0 ∙ sym (ap length (line-there p .1))
 
-write-front-requires : tie.Need-write-front-requires
-write-front-requires c κs = search needs
-
-same-length : tie.Need-same-length
-same-length c = search needs
-
 returns : tie.Need-returns
 returns c =
     let p = c .before .before .before .before .before .before .before in
     let w = c .before .before .before .write-front in
     line-put (refusalLine (p .before .before .before .args .refusal)) (p .before .before .before .args .out .now) _ (w .last .0) (p .put-refusal .result) (w .result)
     (line-there p .1) (line-there p .0) (w .ensures .0) (w .ensures .1) (c .if1 .taken)
-
-same-length-2 : tie.Need-same-length-2
-same-length-2 c = search needs
 
 returns-2 : tie.Need-returns-2
 returns-2 c =
@@ -62,12 +47,10 @@ pub print-refusal-spec : {M : Type 1} → statement M
 print-refusal-spec =
     tie.close
     (tie.spec
-    slice-aggregate-put-refusal
-    put-refusal-requires
+    (λ c. search needs) (λ c κs. search needs)
     array-share-prefix-aside
     slice-aggregate-write-front
-    write-front-requires
-    same-length
+    (λ c κs. search needs) (λ c. search needs)
     returns
-    same-length-2
+    (λ c. search needs)
     returns-2)

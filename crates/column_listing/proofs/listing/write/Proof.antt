@@ -7,15 +7,6 @@ use Rattle.column_listing.proofs.Outcomes.{file-refused, refused-reply}
 use Rattle.column_listing.proofs.listing.write.Statement.{statement}
 use Rattle.column_listing.proofs.listing.write.Tie as tie
 
-read-requires : tie.Need-read-requires
-read-requires c κs = search needs
-
-enum-known-reading : tie.Need-enum-known-reading
-enum-known-reading c = search needs
-
-enum-known-reading-2 : tie.Need-enum-known-reading-2
-enum-known-reading-2 c = search needs
-
 write-accepted-requires : tie.Need-write-accepted-requires
 write-accepted-requires c κs = sym (c .before .before .before .before .read .ensures .0) ∙ c .before .before .reading2 .given .1
 
@@ -27,20 +18,11 @@ returns c =
     let read = c .before .before .before .read in
     refused-reply s (start .out .now) (g .0 .0) (file-refused s (g .0 .0) (read-refused (readFile s) (read .result) (read .ensures .0) (g .0 .0) (g .1)))
 
-same-length : tie.Need-same-length
-same-length c = search needs
-
-returns-2 : tie.Need-returns-2
-returns-2 c = search needs
-
 pub write-spec : {M : Type 1} → statement M
 write-spec =
     tie.close
     (tie.spec
-    read-requires
-    enum-known-reading
-    enum-known-reading-2
+    (λ c κs. search needs) (λ c. search needs) (λ c. search needs)
     write-accepted-requires
     returns
-    same-length
-    returns-2)
+    (λ c. search needs) (λ c. search needs))

@@ -56,29 +56,11 @@ text-same : (c : tie.After-answer2)
     ≡ placesText (a .places) (a .file .now) (u .text) (u .hadErrors)
 text-same c = same-text _ _ (there c) (given c .flagged)
 
-default-requires : tie.Need-default-requires
-default-requires c κs = search needs
-
 sub-consensus : tie.Need-sub-consensus
 sub-consensus c = let start = c .before .before .before in strings-inside (start .args .file .now) (start .args .places) (file-at start)
 
 part-consensus-start : tie.Need-part-consensus-start
 part-consensus-start c = let start = c .before .before .before in strings-inside (start .args .file .now) (start .args .places) (file-at start)
-
-part-consensus-end : tie.Need-part-consensus-end
-part-consensus-end c = search needs
-
-slice-aggregate-consensus : tie.Need-slice-aggregate-consensus
-slice-aggregate-consensus c = search needs
-
-consensus-requires : tie.Need-consensus-requires
-consensus-requires c κs = search needs
-
-enum-known-answer : tie.Need-enum-known-answer
-enum-known-answer c = search needs
-
-enum-known-answer-2 : tie.Need-enum-known-answer-2
-enum-known-answer-2 c = search needs
 
 array-share-prefix-text : tie.Need-array-share-prefix-text
 array-share-prefix-text c = omega (arith, short (c .before))
@@ -105,9 +87,6 @@ returns c =
     let g = c .before .answer .given in
     refused-reply (a .file .now) (a .out .now) _ (listed-refused (a .file .now) (a .places) (file-at start) _ (said-refused _ (k .consensus .result .answer) (answered k .0) _ (g .1)))
 
-same-length : tie.Need-same-length
-same-length c = search needs
-
 returns-2 : tie.Need-returns-2
 returns-2 c =
     let g = c .before .before .before .before .before .before in
@@ -121,17 +100,14 @@ pub write-accepted-spec : {M : Type 1} → statement M
 write-accepted-spec =
     tie.close
     (tie.spec
-    default-requires
+    (λ c κs. search needs)
     sub-consensus
     part-consensus-start
-    part-consensus-end
-    slice-aggregate-consensus
-    consensus-requires
-    enum-known-answer
-    enum-known-answer-2
+    (λ c. search needs) (λ c. search needs) (λ c κs. search needs) (λ c. search needs)
+    (λ c. search needs)
     array-share-prefix-text
     slice-aggregate-write-text
     write-text-requires
     returns
-    same-length
+    (λ c. search needs)
     returns-2)

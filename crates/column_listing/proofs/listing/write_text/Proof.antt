@@ -9,18 +9,6 @@ use Rattle.column_listing.proofs.Outcomes.{with-tables, outcome-short, 
 use Rattle.column_listing.proofs.listing.write_text.Statement.{statement}
 use Rattle.column_listing.proofs.listing.write_text.Tie as tie
 
-compute-requires : tie.Need-compute-requires
-compute-requires c κs = search needs
-
-build-unanimous-gap-tables-requires : tie.Need-build-unanimous-gap-tables-requires
-build-unanimous-gap-tables-requires c κs = search needs
-
-windows-requires : tie.Need-windows-requires
-windows-requires c κs = search needs
-
-start-requires : tie.Need-start-requires
-start-requires c κs = search needs
-
 -- where the function is entered
 abbrev entered : tie.After-start → tie.Start
 entered c = c .before .before .before .before .before .before .before .before .before .before .before .before .before .before .before .before
@@ -50,12 +38,6 @@ returns c =
     let f = c .before .fits2 in
     outcome-short _ (entered st .args .out .now) _ (text-same st) (f .result) (f .ensures) (c .if1 .taken)
 
-put-text-requires : tie.Need-put-text-requires
-put-text-requires c κs = search needs
-
-same-length : tie.Need-same-length
-same-length c = search needs
-
 returns-2 : tie.Need-returns-2
 returns-2 c =
     let tested = c .before .before .before .before .before .before .before in
@@ -68,12 +50,8 @@ pub write-text-spec : {M : Type 1} → statement M
 write-text-spec =
     tie.close
     (tie.spec
-    compute-requires
-    build-unanimous-gap-tables-requires
-    windows-requires
-    start-requires
+    (λ c κs. search needs) (λ c κs. search needs) (λ c κs. search needs) (λ c κs. search needs)
     fits-requires
     returns
-    put-text-requires
-    same-length
+    (λ c κs. search needs) (λ c. search needs)
     returns-2)

@@ -7,29 +7,11 @@ use borrow.Author.Needs.{needs}
 use Rattle.elementary.proofs.exp_minus_one.exp_m1.Statement.{statement}
 use Rattle.elementary.proofs.exp_minus_one.exp_m1.Tie as tie
 
-between-requires : tie.Need-between-requires
-between-requires c κs = search needs
-
-between-requires-2 : tie.Need-between-requires-2
-between-requires-2 c κs = search needs
-
-exp-requires : tie.Need-exp-requires
-exp-requires c κs = search needs
-
 returns : tie.Need-returns
 unfolding expMinusOneOf
 returns c =
     let b = c .before .before .before .before in
     rw (← b .between .ensures, not-true (b .between .result) (c .before .before .before .if1 .taken), ← c .before .before .between2 .ensures, not-true (c .before .before .between2 .result) (c .before .if2 .taken), c .exp .ensures)
-
-correction-at-requires : tie.Need-correction-at-requires
-correction-at-requires c κs = search needs
-
-between-requires-3 : tie.Need-between-requires-3
-between-requires-3 c κs = search needs
-
-near-zero-requires : tie.Need-near-zero-requires
-near-zero-requires c κs = search needs
 
 returns-2 : tie.Need-returns-2
 unfolding expMinusOneOf
@@ -41,9 +23,6 @@ returns-2 c =
     (λ w. clash (sym (j .before .between .ensures) ∙ not-true _ (w .0 .taken)) t)
     (λ w. rw t (c .near-zero .ensures ∙ ap (nearZeroOf (j .before .before .args .x)) (b .before .correction-at .ensures ∙ ap correctionOf (w .1))))
     (j .if1 .came)
-
-shifted-requires : tie.Need-shifted-requires
-shifted-requires c κs = search needs
 
 returns-3 : tie.Need-returns-3
 unfolding expMinusOneOf
@@ -60,13 +39,9 @@ pub exp-m1-spec : {M : Type 1} → statement M
 exp-m1-spec =
     tie.close
     (tie.spec
-    between-requires
-    between-requires-2
-    exp-requires
+    (λ c κs. search needs) (λ c κs. search needs) (λ c κs. search needs)
     returns
-    correction-at-requires
-    between-requires-3
-    near-zero-requires
+    (λ c κs. search needs) (λ c κs. search needs) (λ c κs. search needs)
     returns-2
-    shifted-requires
+    (λ c κs. search needs)
     returns-3)

@@ -7,15 +7,12 @@ returns : tie.Need-returns
 unfolding nearZeroOf
 returns c = rw (c .if1 .taken)
 
-exact-requires : tie.Need-exact-requires
-exact-requires c κs = search needs
-
-fma-small-product-requires : tie.Need-fma-small-product-requires
-fma-small-product-requires c κs = search needs
-
 returns-2 : tie.Need-returns-2
 unfolding nearZeroOf
 returns-2 c = rw (c .before .before .before .if1 .left, ← c .before .before .exact .ensures, c .fma-small-product .ensures)
 
 pub near-zero-spec : {M : Type 1} → statement M
-near-zero-spec = tie.close (tie.spec returns exact-requires fma-small-product-requires returns-2)
+near-zero-spec =
+    tie.close
+    (tie.spec
+    returns (λ c κs. search needs) (λ c κs. search needs) returns-2)

@@ -3,24 +3,9 @@ use borrow.Author.Needs.{needs}
 use Rattle.elementary.proofs.exp_minus_one.shifted.Statement.{statement}
 use Rattle.elementary.proofs.exp_minus_one.shifted.Tie as tie
 
-halved-requires : tie.Need-halved-requires
-halved-requires c κs = search needs
-
-halved-requires-2 : tie.Need-halved-requires-2
-halved-requires-2 c κs = search needs
-
 returns : tie.Need-returns
 unfolding shiftedOf
 returns c = rw (← c .before .before .before .halved .ensures, ← c .before .halved2 .ensures, c .if1 .taken)
-
-exact-requires : tie.Need-exact-requires
-exact-requires c κs = search needs
-
-fma-large-product-requires : tie.Need-fma-large-product-requires
-fma-large-product-requires c κs = search needs
-
-halved-requires-3 : tie.Need-halved-requires-3
-halved-requires-3 c κs = search needs
 
 returns-2 : tie.Need-returns-2
 unfolding shiftedOf
@@ -32,10 +17,7 @@ pub shifted-spec : {M : Type 1} → statement M
 shifted-spec =
     tie.close
     (tie.spec
-    halved-requires
-    halved-requires-2
+    (λ c κs. search needs) (λ c κs. search needs)
     returns
-    exact-requires
-    fma-large-product-requires
-    halved-requires-3
+    (λ c κs. search needs) (λ c κs. search needs) (λ c κs. search needs)
     returns-2)

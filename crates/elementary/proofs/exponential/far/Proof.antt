@@ -11,12 +11,6 @@ returns c = rw (c .if1 .taken)
 float-from-bits-h : tie.Need-float-from-bits-h
 float-from-bits-h c = no-nan _ (omega arith)
 
-fma-small-product-requires : tie.Need-fma-small-product-requires
-fma-small-product-requires c κs = search needs
-
-scaled-requires : tie.Need-scaled-requires
-scaled-requires c κs = search needs
-
 returns-2 : tie.Need-returns-2
 unfolding from0Of
 returns-2 c =
@@ -35,7 +29,6 @@ far-spec =
     (tie.spec
     returns
     float-from-bits-h
-    fma-small-product-requires
-    scaled-requires
+    (λ c κs. search needs) (λ c κs. search needs)
     returns-2
     returns-3)

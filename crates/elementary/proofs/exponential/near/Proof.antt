@@ -13,23 +13,11 @@ use Rattle.elementary.proofs.exponential.near.Tie as tie
 float-to-bits-n : tie.Need-float-to-bits-n
 float-to-bits-n c = rw (steps-number _ (c .pre)) tt
 
-exp-row-requires : tie.Need-exp-row-requires
-exp-row-requires c κs = search needs
-
-series-requires : tie.Need-series-requires
-series-requires c κs = search needs
-
-mul-h : tie.Need-mul-h
-mul-h c = search needs
-
 add-h : tie.Need-add-h
 add-h c =
     let e = c .before .before .before .before .exp-row in
     let below : e .result .head < 0x4000_0000_0000_0000 = rw (e .ensures) (head-below-2 _ (omega arith)) in
     omega arith
-
-mul-h-2 : tie.Need-mul-h-2
-mul-h-2 c = search needs
 
 sub-h : tie.Need-sub-h
 sub-h c =
@@ -42,9 +30,6 @@ float-from-bits-h c =
     let e = c .before .before .before .before .exp-row in
     let below : e .result .head < 0x4000_0000_0000_0000 = rw (e .ensures) (head-below-2 _ (omega arith)) in
     no-nan _ (omega arith)
-
-fma-small-product-requires : tie.Need-fma-small-product-requires
-fma-small-product-requires c κs = search needs
 
 returns : tie.Need-returns
 unfolding nearOf
@@ -72,14 +57,12 @@ near-spec =
     tie.close
     (tie.spec
     float-to-bits-n
-    exp-row-requires
-    series-requires
-    mul-h
+    (λ c κs. search needs) (λ c κs. search needs) (λ c. search needs)
     add-h
-    mul-h-2
+    (λ c. search needs)
     sub-h
     float-from-bits-h
-    fma-small-product-requires
+    (λ c κs. search needs)
     returns
     far-requires
     returns-2)

@@ -6,9 +6,6 @@ use borrow.Author.Needs.{needs}
 use Rattle.elementary.proofs.exponential.power_of_two.Statement.{statement}
 use Rattle.elementary.proofs.exponential.power_of_two.Tie as tie
 
-mul-result : tie.Need-mul-result
-mul-result c = search needs
-
 float-from-bits-result : tie.Need-float-from-bits-result
 float-from-bits-result c = no-nan _ (omega arith)
 
@@ -17,4 +14,4 @@ unfolding powerOfTwoOf
 returns c = refl
 
 pub power-of-two-spec : {M : Type 1} → statement M
-power-of-two-spec = tie.close (tie.spec mul-result float-from-bits-result returns)
+power-of-two-spec = tie.close (tie.spec (λ c. search needs) float-from-bits-result returns)

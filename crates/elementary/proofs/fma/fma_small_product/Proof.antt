@@ -7,12 +7,9 @@ returns : tie.Need-returns
 unfolding fmaSmallProductOf
 returns c = rw (c .if1 .taken)
 
-product-error-requires : tie.Need-product-error-requires
-product-error-requires c κs = search needs
-
 returns-2 : tie.Need-returns-2
 unfolding fmaSmallProductOf
 returns-2 c = rw (c .before .if1 .left, c .product-error .ensures)
 
 pub fma-small-product-spec : {M : Type 1} → statement M
-fma-small-product-spec = tie.close (tie.spec returns product-error-requires returns-2)
+fma-small-product-spec = tie.close (tie.spec returns (λ c κs. search needs) returns-2)

@@ -14,20 +14,14 @@ without-c : (t : Parts) → eq (t .k) plusZero ≡ true → joinedOf (record { f
 unfolding joinedOf
 without-c t h = rw (zero-equal, h)
 
-reduced-requires : tie.Need-reduced-requires
-reduced-requires c κs = search needs
-
-near-requires : tie.Need-near-requires
-near-requires c κs = search needs
-
 returns : tie.Need-returns
 returns c = c .near .ensures ∙ without-c _ (c .before .if1 .taken) ∙ ap joinedOf (c .before .before .before .reduced .ensures)
-
-far-requires : tie.Need-far-requires
-far-requires c κs = search needs
 
 returns-2 : tie.Need-returns-2
 returns-2 c = c .far .ensures ∙ ap joinedOf (c .before .before .before .reduced .ensures)
 
 pub anywhere-spec : {M : Type 1} → statement M
-anywhere-spec = tie.close (tie.spec reduced-requires near-requires returns far-requires returns-2)
+anywhere-spec =
+    tie.close
+    (tie.spec
+    (λ c κs. search needs) (λ c κs. search needs) returns (λ c κs. search needs) returns-2)

@@ -25,9 +25,6 @@ returns c =
     let n = below-0 _ (lt-numbers _ _ t .1) (c .before .before .pre) in
     rw (t, lt-trans _ plusZero _ n high-above-0, c .if2 .taken, lt-trans _ plusZero _ n tiny-above-0)
 
-near-requires : tie.Need-near-requires
-near-requires c κs = search needs
-
 returns-2 : tie.Need-returns-2
 unfolding numberOf betweenOf
 returns-2 c =
@@ -53,4 +50,5 @@ returns-5 c = rw (c .before .before .if1 .left, c .before .if3 .left, c .if4 .le
 pub below-zero-spec : {M : Type 1} → statement M
 below-zero-spec =
     tie.close
-    (tie.spec returns near-requires returns-2 anywhere-requires returns-3 returns-4 returns-5)
+    (tie.spec
+    returns (λ c κs. search needs) returns-2 anywhere-requires returns-3 returns-4 returns-5)

@@ -28,9 +28,6 @@ returns c =
     let s = c .before .before in
     rw (lt-le-lt _ plusZero _ low-below-0 (s .pre), c .before .if1 .taken, lt-le-lt _ plusZero _ minus-tiny-below-0 (s .pre), c .if2 .taken)
 
-near-requires : tie.Need-near-requires
-near-requires c κs = search needs
-
 returns-2 : tie.Need-returns-2
 unfolding numberOf betweenOf
 returns-2 c =
@@ -60,7 +57,7 @@ from-zero-spec =
     tie.close
     (tie.spec
     returns
-    near-requires
+    (λ c κs. search needs)
     returns-2
     far-requires
     returns-3

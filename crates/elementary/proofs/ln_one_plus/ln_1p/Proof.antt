@@ -3,9 +3,6 @@ use borrow.Author.Needs.{needs}
 use Rattle.elementary.proofs.ln_one_plus.ln_1p.Statement.{statement}
 use Rattle.elementary.proofs.ln_one_plus.ln_1p.Tie as tie
 
-from-zero-requires : tie.Need-from-zero-requires
-from-zero-requires c κs = search needs
-
 returns : tie.Need-returns
 unfolding lnOnePlusOf
 returns c = rw (← c .before .from-zero .ensures, c .before .before .if1 .taken, c .if2 .taken)
@@ -14,13 +11,10 @@ returns-2 : tie.Need-returns-2
 unfolding lnOnePlusOf
 returns-2 c = rw (← c .before .from-zero .ensures, c .before .before .if1 .taken, c .if2 .left)
 
-below-zero-requires : tie.Need-below-zero-requires
-below-zero-requires c κs = search needs
-
 returns-3 : tie.Need-returns-3
 unfolding lnOnePlusOf
 returns-3 c = rw (← c .below-zero .ensures, c .before .if1 .left)
 
 pub ln-1p-spec : {M : Type 1} → statement M
 ln-1p-spec =
-    tie.close (tie.spec from-zero-requires returns returns-2 below-zero-requires returns-3)
+    tie.close (tie.spec (λ c κs. search needs) returns returns-2 (λ c κs. search needs) returns-3)

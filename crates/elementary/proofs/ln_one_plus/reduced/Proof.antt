@@ -13,20 +13,8 @@ float-to-bits-v : tie.Need-float-to-bits-v
 unfolding ofBits
 float-to-bits-v c = rw (not-nan-add _ one tt (c .pre)) tt
 
-add-v : tie.Need-add-v
-add-v c = search needs
-
-add-f : tie.Need-add-f
-add-f c = search needs
-
 float-from-bits-f : tie.Need-float-from-bits-f
 float-from-bits-f c = no-nan _ (omega arith)
-
-cast-t13 : tie.Need-cast-t13
-cast-t13 c = search needs
-
-int-to-float-t10 : tie.Need-int-to-float-t10
-int-to-float-t10 c = search needs
 
 returns : tie.Need-returns
 unfolding reducedOf
@@ -35,4 +23,6 @@ returns c = refl
 pub reduced-spec : {M : Type 1} → statement M
 reduced-spec =
     tie.close
-    (tie.spec float-to-bits-v add-v add-f float-from-bits-f cast-t13 int-to-float-t10 returns)
+    (tie.spec
+    float-to-bits-v (λ c. search needs) (λ c. search needs) float-from-bits-f (λ c. search needs)
+    (λ c. search needs) returns)

@@ -66,9 +66,6 @@ returns c =
     let h = c .before .before .if1 .taken in
     rw (lt-not-le _ below-one h, c .before .if2 .taken, lt-le _ largest (lt-trans _ below-one largest h below-one-largest)) (c .normal .ensures)
 
-ln-1p-requires : tie.Need-ln-1p-requires
-ln-1p-requires c κs = search needs
-
 returns-2 : tie.Need-returns-2
 unfolding lnOf
 returns-2 c =
@@ -119,7 +116,7 @@ ln-spec =
     (tie.spec
     normal-requires
     returns
-    ln-1p-requires
+    (λ c κs. search needs)
     returns-2
     normal-requires-2
     returns-3

@@ -11,9 +11,6 @@ use Rattle.elementary.proofs.logarithm.normal.Tie as tie
 float-to-bits-n : tie.Need-float-to-bits-n
 float-to-bits-n c = rw (c .pre) tt
 
-ln-row-requires : tie.Need-ln-row-requires
-ln-row-requires c κs = search needs
-
 add-k : tie.Need-add-k
 add-k c =
     let n : toBits binary64 (c .before .args .x) < 2 ^ 64 = toBits-lt binary64 _ (rw (c .before .good .0 .1) tt) in
@@ -24,17 +21,8 @@ cast-k c =
     let n : toBits binary64 (c .before .args .x) < 2 ^ 64 = toBits-lt binary64 _ (rw (c .before .good .0 .1) tt) in
     omega arith
 
-int-to-float-k : tie.Need-int-to-float-k
-int-to-float-k c = search needs
-
-add-t : tie.Need-add-t
-add-t c = search needs
-
 float-from-bits-t : tie.Need-float-from-bits-t
 float-from-bits-t c = no-nan _ (omega arith)
-
-ratio-requires : tie.Need-ratio-requires
-ratio-requires c κs = search needs
 
 returns : tie.Need-returns
 unfolding normalOf
@@ -45,11 +33,10 @@ normal-spec =
     tie.close
     (tie.spec
     float-to-bits-n
-    ln-row-requires
+    (λ c κs. search needs)
     add-k
     cast-k
-    int-to-float-k
-    add-t
+    (λ c. search needs) (λ c. search needs)
     float-from-bits-t
-    ratio-requires
+    (λ c κs. search needs)
     returns)

@@ -3,12 +3,9 @@ use borrow.Author.Needs.{needs}
 use Rattle.elementary.proofs.logarithm.ratio.Statement.{statement}
 use Rattle.elementary.proofs.logarithm.ratio.Tie as tie
 
-fma-small-product-requires : tie.Need-fma-small-product-requires
-fma-small-product-requires c κs = search needs
-
 returns : tie.Need-returns
 unfolding ratioOf
 returns c = c .fma-small-product .ensures
 
 pub ratio-spec : {M : Type 1} → statement M
-ratio-spec = tie.close (tie.spec fma-small-product-requires returns)
+ratio-spec = tie.close (tie.spec (λ c κs. search needs) returns)

@@ -5,15 +5,9 @@ use Rattle.export_reports.specs.Report.{eachLane, builderBytes}
 use Rattle.export_reports.proofs.report.builder_bytes.Statement.{statement}
 use Rattle.export_reports.proofs.report.builder_bytes.Tie as tie
 
-slice-aggregate-put-builder : tie.Need-slice-aggregate-put-builder
-slice-aggregate-put-builder c = search needs
-
-put-builder-requires : tie.Need-put-builder-requires
-put-builder-requires c κs = search needs
-
 returns : tie.Need-returns
 unfolding builderBytes eachLane bytesOf
 returns c = search needs
 
 pub builder-bytes-spec : {M : Type 1} → statement M
-builder-bytes-spec = tie.close (tie.spec slice-aggregate-put-builder put-builder-requires returns)
+builder-bytes-spec = tie.close (tie.spec (λ c. search needs) (λ c κs. search needs) returns)

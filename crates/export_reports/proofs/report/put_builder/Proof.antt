@@ -7,9 +7,6 @@ use borrow.Author.Needs.{needs}
 use Rattle.export_reports.proofs.report.put_builder.Statement.{statement}
 use Rattle.export_reports.proofs.report.put_builder.Tie as tie
 
-put-patterns-requires : tie.Need-put-patterns-requires
-put-patterns-requires c κs = search needs
-
 put-patterns-requires-2 : tie.Need-put-patterns-requires-2
 put-patterns-requires-2 c κs = omega (arith, c .before .before .before .put-patterns .ensures .place, patterns-length (c .before .before .before .before .before .before .before .before .before .args .builder .likelihoods))
 
@@ -31,7 +28,7 @@ pub put-builder-spec : {M : Type 1} → statement M
 put-builder-spec =
     tie.close
     (tie.spec
-    put-patterns-requires
+    (λ c κs. search needs)
     put-patterns-requires-2
     put-counts-requires
     same-length

@@ -4,15 +4,6 @@ use borrow.Author.Needs.{needs}
 use Rattle.export_reports.proofs.report.put_call.Statement.{statement}
 use Rattle.export_reports.proofs.report.put_call.Tie as tie
 
-put-byte-requires : tie.Need-put-byte-requires
-put-byte-requires c κs = search needs
-
-put-byte-requires-2 : tie.Need-put-byte-requires-2
-put-byte-requires-2 c κs = search needs
-
-same-length : tie.Need-same-length
-same-length c = search needs
-
 returns : tie.Need-returns
 returns c = put-then (c .before .before .before .before .before .before .put-byte .ensures) (c .before .before .put-byte2 .ensures)
 
@@ -20,7 +11,5 @@ pub put-call-spec : {M : Type 1} → statement M
 put-call-spec =
     tie.close
     (tie.spec
-    put-byte-requires
-    put-byte-requires-2
-    same-length
+    (λ c κs. search needs) (λ c κs. search needs) (λ c. search needs)
     returns)

@@ -7,26 +7,11 @@ use borrow.Author.Needs.{needs}
 use Rattle.export_reports.proofs.report.put_calls.Statement.{statement}
 use Rattle.export_reports.proofs.report.put_calls.Tie as tie
 
-try-unanimous-fast-path-by-requires : tie.Need-try-unanimous-fast-path-by-requires
-try-unanimous-fast-path-by-requires c κs = search needs
-
-try-multibase-fast-path-requires : tie.Need-try-multibase-fast-path-requires
-try-multibase-fast-path-requires c κs = search needs
-
-put-reply-requires : tie.Need-put-reply-requires
-put-reply-requires c κs = search needs
-
 put-reply-requires-2 : tie.Need-put-reply-requires-2
 put-reply-requires-2 c κs = omega (arith, c .before .before .before .put-reply .ensures .place, reply-length (c .before .before .before .before .before .before .try-unanimous-fast-path-by .result), reply-length (c .before .before .before .before .before .try-multibase-fast-path .result))
 
-call-full-requires : tie.Need-call-full-requires
-call-full-requires c κs = search needs
-
 put-call-requires : tie.Need-put-call-requires
 put-call-requires c κs = omega (arith, c .before .before .before .before .before .before .before .before .put-reply .ensures .place, c .before .before .before .before .put-reply2 .ensures .place, reply-length (c .before .before .before .before .before .before .before .before .before .before .before .try-unanimous-fast-path-by .result), reply-length (c .before .before .before .before .before .before .before .before .before .before .try-multibase-fast-path .result))
-
-call-by-requires : tie.Need-call-by-requires
-call-by-requires c κs = search needs
 
 put-call-requires-2 : tie.Need-put-call-requires-2
 put-call-requires-2 c κs = omega (arith, c .before .before .before .before .before .before .before .before .before .before .before .before .before .put-reply .ensures .place, c .before .before .before .before .before .before .before .before .before .put-reply2 .ensures .place, c .before .before .before .before .put-call .ensures .place, reply-length (c .before .before .before .before .before .before .before .before .before .before .before .before .before .before .before .before .try-unanimous-fast-path-by .result), reply-length (c .before .before .before .before .before .before .before .before .before .before .before .before .before .before .before .try-multibase-fast-path .result))
@@ -48,13 +33,11 @@ pub put-calls-spec : {M : Type 1} → statement M
 put-calls-spec =
     tie.close
     (tie.spec
-    try-unanimous-fast-path-by-requires
-    try-multibase-fast-path-requires
-    put-reply-requires
+    (λ c κs. search needs) (λ c κs. search needs) (λ c κs. search needs)
     put-reply-requires-2
-    call-full-requires
+    (λ c κs. search needs)
     put-call-requires
-    call-by-requires
+    (λ c κs. search needs)
     put-call-requires-2
     same-length
     returns)

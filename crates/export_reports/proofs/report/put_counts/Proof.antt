@@ -7,38 +7,11 @@ use borrow.Author.Needs.{needs}
 use Rattle.export_reports.proofs.report.put_counts.Statement.{statement}
 use Rattle.export_reports.proofs.report.put_counts.Tie as tie
 
-array-read-put-number : tie.Need-array-read-put-number
-array-read-put-number c = search needs
-
-cast-put-number : tie.Need-cast-put-number
-cast-put-number c = search needs
-
-put-number-requires : tie.Need-put-number-requires
-put-number-requires c κs = search needs
-
-array-read-put-number-2 : tie.Need-array-read-put-number-2
-array-read-put-number-2 c = search needs
-
-cast-put-number-2 : tie.Need-cast-put-number-2
-cast-put-number-2 c = search needs
-
 put-number-requires-2 : tie.Need-put-number-requires-2
 put-number-requires-2 c κs = omega (arith, c .before .before .before .put-number .ensures .place, bytes-length 4 (getD (c .before .before .before .before .before .before .args .t3) 0 0))
 
-array-read-put-number-3 : tie.Need-array-read-put-number-3
-array-read-put-number-3 c = search needs
-
-cast-put-number-3 : tie.Need-cast-put-number-3
-cast-put-number-3 c = search needs
-
 put-number-requires-3 : tie.Need-put-number-requires-3
 put-number-requires-3 c κs = omega (arith, c .before .before .before .before .before .before .before .put-number .ensures .place, c .before .before .before .put-number2 .ensures .place, bytes-length 4 (getD (c .before .before .before .before .before .before .before .before .before .before .args .t3) 0 0), bytes-length 4 (getD (c .before .before .before .before .before .before .before .before .before .before .args .t3) 1 0))
-
-array-read-put-number-4 : tie.Need-array-read-put-number-4
-array-read-put-number-4 c = search needs
-
-cast-put-number-4 : tie.Need-cast-put-number-4
-cast-put-number-4 c = search needs
 
 put-number-requires-4 : tie.Need-put-number-requires-4
 put-number-requires-4 c κs = omega (arith, c .before .before .before .before .before .before .before .before .before .before .before .put-number .ensures .place, c .before .before .before .before .before .before .before .put-number2 .ensures .place, c .before .before .before .put-number3 .ensures .place, bytes-length 4 (getD (c .before .before .before .before .before .before .before .before .before .before .before .before .before .before .args .t3) 0 0), bytes-length 4 (getD (c .before .before .before .before .before .before .before .before .before .before .before .before .before .before .args .t3) 1 0), bytes-length 4 (getD (c .before .before .before .before .before .before .before .before .before .before .before .before .before .before .args .t3) 2 0))
@@ -58,17 +31,12 @@ pub put-counts-spec : {M : Type 1} → statement M
 put-counts-spec =
     tie.close
     (tie.spec
-    array-read-put-number
-    cast-put-number
-    put-number-requires
-    array-read-put-number-2
-    cast-put-number-2
+    (λ c. search needs) (λ c. search needs) (λ c κs. search needs) (λ c. search needs)
+    (λ c. search needs)
     put-number-requires-2
-    array-read-put-number-3
-    cast-put-number-3
+    (λ c. search needs) (λ c. search needs)
     put-number-requires-3
-    array-read-put-number-4
-    cast-put-number-4
+    (λ c. search needs) (λ c. search needs)
     put-number-requires-4
     same-length
     returns)

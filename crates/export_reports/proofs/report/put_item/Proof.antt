@@ -11,9 +11,6 @@ returns c = rw (lt-ltb _ _ (c .if1 .taken)) (put-none _ _)
 put-report-requires : tie.Need-put-report-requires
 put-report-requires c κs = c .before .before .before .pre (c .before .if1 .left)
 
-same-length : tie.Need-same-length
-same-length c = search needs
-
 returns-2 : tie.Need-returns-2
 returns-2 c = rw (le-ltb _ _ (c .before .before .before .before .if1 .left)) (c .before .before .put-report .ensures)
 
@@ -23,5 +20,5 @@ put-item-spec =
     (tie.spec
     returns
     put-report-requires
-    same-length
+    (λ c. search needs)
     returns-2)

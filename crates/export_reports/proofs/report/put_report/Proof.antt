@@ -8,9 +8,6 @@ use borrow.Author.Needs.{needs}
 use Rattle.export_reports.proofs.report.put_report.Statement.{statement}
 use Rattle.export_reports.proofs.report.put_report.Tie as tie
 
-put-builder-requires : tie.Need-put-builder-requires
-put-builder-requires c κs = search needs
-
 put-calls-requires : tie.Need-put-calls-requires
 put-calls-requires c κs = omega (arith, c .before .before .before .put-builder .ensures .place, builder-length (c .before .before .before .before .before .before .before .args .progress .builder))
 
@@ -34,7 +31,7 @@ pub put-report-spec : {M : Type 1} → statement M
 put-report-spec =
     tie.close
     (tie.spec
-    put-builder-requires
+    (λ c κs. search needs)
     put-calls-requires
     put-byte-requires
     same-length

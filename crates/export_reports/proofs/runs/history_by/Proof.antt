@@ -4,15 +4,6 @@ use borrow.Author.Needs.{needs}
 use Rattle.export_reports.proofs.runs.history_by.Statement.{statement}
 use Rattle.export_reports.proofs.runs.history_by.Tie as tie
 
-new-requires : tie.Need-new-requires
-new-requires c κs = search needs
-
-run-requires : tie.Need-run-requires
-run-requires c κs = search needs
-
-same-length : tie.Need-same-length
-same-length c = search needs
-
 returns : tie.Need-returns
 unfolding historyBytes
 returns c = rw (← c .before .before .before .before .new .ensures) (c .before .before .run .ensures)
@@ -21,7 +12,5 @@ pub history-by-spec : {M : Type 1} → statement M
 history-by-spec =
     tie.close
     (tie.spec
-    new-requires
-    run-requires
-    same-length
+    (λ c κs. search needs) (λ c κs. search needs) (λ c. search needs)
     returns)

@@ -37,12 +37,6 @@ loop-holds c =
     let a = c .before .before .args in
     (omega arith, omega (arith, c .before .before .pre, reports-length (adjustedOf (a .correct .now) (a .error-per-alt .now)) (tablesOf (a .thresholds .now) (a .cerr-min .now) (a .cap)) (items (a .script .now)) (a .start)), refl, refl)
 
-add-loop : tie.Need-add-loop Inv-loop μ-loop
-add-loop c = search needs
-
-shared-slice-read-put-item : tie.Need-shared-slice-read-put-item Inv-loop μ-loop
-shared-slice-read-put-item c = search needs
-
 put-item-requires : tie.Need-put-item-requires Inv-loop μ-loop
 put-item-requires c κs =
     λ h.
@@ -52,33 +46,12 @@ put-item-requires c κs =
     let n = rw (le-ltb (getD s (l .i) 0) 3 h) at q in
     omega (arith, n, l .inv .1)
 
-shared-slice-read-pass-by : tie.Need-shared-slice-read-pass-by Inv-loop μ-loop
-shared-slice-read-pass-by c = search needs
-
-add-pass-by : tie.Need-add-pass-by Inv-loop μ-loop
-add-pass-by c = search needs
-
-shared-slice-read-pass-by-2 : tie.Need-shared-slice-read-pass-by-2 Inv-loop μ-loop
-shared-slice-read-pass-by-2 c = search needs
-
-add-pass-by-2 : tie.Need-add-pass-by-2 Inv-loop μ-loop
-add-pass-by-2 c = search needs
-
-shared-slice-read-pass-by-3 : tie.Need-shared-slice-read-pass-by-3 Inv-loop μ-loop
-shared-slice-read-pass-by-3 c = search needs
-
-pass-by-requires : tie.Need-pass-by-requires Inv-loop μ-loop
-pass-by-requires c κs = search needs
-
 -- the next place is a number of 64 bits
 small : (c : tie.In-loop Inv-loop μ-loop) → c .before .loop .i + 3 < 2 ^ 64
 small c = omega arith
 
 add-i : tie.Need-add-i Inv-loop μ-loop
 add-i c = omega (arith, small (c .before .before .before .before .before .before .before .before .before))
-
-loop-less : tie.Need-loop-less Inv-loop μ-loop
-loop-less c = search needs
 
 loop-again : tie.Need-loop-again Inv-loop μ-loop
 loop-again c =
@@ -112,17 +85,12 @@ put-reports-spec =
     Inv-loop
     μ-loop
     loop-holds
-    add-loop
-    shared-slice-read-put-item
+    (λ c. search needs) (λ c. search needs)
     put-item-requires
-    shared-slice-read-pass-by
-    add-pass-by
-    shared-slice-read-pass-by-2
-    add-pass-by-2
-    shared-slice-read-pass-by-3
-    pass-by-requires
+    (λ c. search needs) (λ c. search needs) (λ c. search needs) (λ c. search needs)
+    (λ c. search needs) (λ c κs. search needs)
     add-i
-    loop-less
+    (λ c. search needs)
     loop-again
     same-length
     returns)

@@ -22,17 +22,11 @@ returns c =
     let e = bad-rule (a .pre .0) (a .post .0) (a .rule) (a .script .now) (a .builder) (c .if1 .taken) in
     (none-replied _ _ e, none-written _ _ e)
 
-is-script-requires : tie.Need-is-script-requires
-is-script-requires c κs = search needs
-
 returns-2 : tie.Need-returns-2
 returns-2 c =
     let a = c .before .before .before .before .before .args in
     let e = bad-script (a .pre .0) (a .post .0) (a .rule) (a .script .now) (a .builder) (c .before .before .if1 .left) (sym (c .before .is-script .ensures) ∙ not-true (c .before .is-script .result) (c .if2 .taken)) in
     (none-replied _ _ e, none-written _ _ e)
-
-questions-in-requires : tie.Need-questions-in-requires
-questions-in-requires c κs = search needs
 
 -- the bytes that are asked for
 abbrev asks : tie.Start → List ℕ
@@ -63,20 +57,11 @@ few c = omega arith
 room : (c : tie.Else3) → length (asks (c .before .before .before .before .before .before .before)) ≤ length (c .before .before .before .before .before .before .before .args .out .now)
 room c = omega (arith, size (c .before), c .if3 .left)
 
-rule-of-requires : tie.Need-rule-of-requires
-rule-of-requires c κs = search needs
-
-with-tie-rule-requires : tie.Need-with-tie-rule-requires
-with-tie-rule-requires c κs = search needs
-
 put-script-requires : tie.Need-put-script-requires
 put-script-requires c κs = rw (c .before .with-tie-rule .ensures, c .before .before .rule-of .ensures, ← whole (c .before .before .before .before)) (room (c .before .before .before))
 
 mul-result : tie.Need-mul-result
 mul-result c = omega (arith, few (c .before .before .before .before .before .before))
-
-same-length : tie.Need-same-length
-same-length c = search needs
 
 returns-4 : tie.Need-returns-4
 returns-4 c =
@@ -90,13 +75,12 @@ run-spec =
     tie.close
     (tie.spec
     returns
-    is-script-requires
+    (λ c κs. search needs)
     returns-2
-    questions-in-requires
+    (λ c κs. search needs)
     returns-3
-    rule-of-requires
-    with-tie-rule-requires
+    (λ c κs. search needs) (λ c κs. search needs)
     put-script-requires
     mul-result
-    same-length
+    (λ c. search needs)
     returns-4)

@@ -13,15 +13,6 @@ returns c =
     let e = ne-eqb _ _ (c .if1 .taken) in
     (rw e (none-replied _ _ refl), rw e (none-written _ _ refl))
 
-builder-of-requires : tie.Need-builder-of-requires
-builder-of-requires c κs = search needs
-
-run-requires : tie.Need-run-requires
-run-requires c κs = search needs
-
-same-length : tie.Need-same-length
-same-length c = search needs
-
 returns-2 : tie.Need-returns-2
 unfolding builderScriptBytes
 returns-2 c = rw (eq-eqb _ _ (c .before .before .before .before .before .if1 .left), ← c .before .before .before .before .builder-of .ensures) (c .before .before .run .ensures)
@@ -31,7 +22,5 @@ from-state-spec =
     tie.close
     (tie.spec
     returns
-    builder-of-requires
-    run-requires
-    same-length
+    (λ c κs. search needs) (λ c κs. search needs) (λ c. search needs)
     returns-2)

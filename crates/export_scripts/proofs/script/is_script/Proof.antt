@@ -20,21 +20,6 @@ abbrev μ-loop : tie.MeasureT-loop
 loop-holds : tie.Need-loop-holds Inv-loop μ-loop
 loop-holds c = (omega arith, refl)
 
-add-loop : tie.Need-add-loop Inv-loop μ-loop
-add-loop c = search needs
-
-shared-slice-read-is-item : tie.Need-shared-slice-read-is-item Inv-loop μ-loop
-shared-slice-read-is-item c = search needs
-
-add-is-item : tie.Need-add-is-item Inv-loop μ-loop
-add-is-item c = search needs
-
-shared-slice-read-is-item-2 : tie.Need-shared-slice-read-is-item-2 Inv-loop μ-loop
-shared-slice-read-is-item-2 c = search needs
-
-is-item-requires : tie.Need-is-item-requires Inv-loop μ-loop
-is-item-requires c κs = search needs
-
 returns : tie.Need-returns Inv-loop μ-loop
 returns c =
     let l = c .before .before .before .before .before .loop in
@@ -42,12 +27,6 @@ returns c =
     let s = a .script .now in
     let e = sym (c .before .is-item .ensures) ∙ not-true (c .before .is-item .result) (c .if1 .taken) in
     sym (sym (l .inv .1) ∙ script-more s (l .i) (c .before .before .before .before .loop-test .taken) (a .most) ∙ ap (λ (b : Bool). b && isScript (a .most) (drop (l .i + 3) s)) e)
-
-add-i : tie.Need-add-i Inv-loop μ-loop
-add-i c = search needs
-
-loop-less : tie.Need-loop-less Inv-loop μ-loop
-loop-less c = search needs
 
 loop-again : tie.Need-loop-again Inv-loop μ-loop
 loop-again c =
@@ -70,13 +49,9 @@ is-script-spec =
     Inv-loop
     μ-loop
     loop-holds
-    add-loop
-    shared-slice-read-is-item
-    add-is-item
-    shared-slice-read-is-item-2
-    is-item-requires
+    (λ c. search needs) (λ c. search needs) (λ c. search needs) (λ c. search needs)
+    (λ c κs. search needs)
     returns
-    add-i
-    loop-less
+    (λ c. search needs) (λ c. search needs)
     loop-again
     returns-2)

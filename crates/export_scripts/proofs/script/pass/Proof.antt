@@ -7,21 +7,6 @@ use borrow.Author.Needs.{needs}
 use Rattle.export_scripts.proofs.script.pass.Statement.{statement}
 use Rattle.export_scripts.proofs.script.pass.Tie as tie
 
-add-with-requires : tie.Need-add-with-requires
-add-with-requires c κs = search needs
-
-refusals-after-requires : tie.Need-refusals-after-requires
-refusals-after-requires c κs = search needs
-
-reset-requires : tie.Need-reset-requires
-reset-requires c κs = search needs
-
-rule-of-requires : tie.Need-rule-of-requires
-rule-of-requires c κs = search needs
-
-set-tie-rule-requires : tie.Need-set-tie-rule-requires
-set-tie-rule-requires c κs = search needs
-
 returns : tie.Need-returns
 unfolding itemOf passed step answered
 returns c = rw (c .before .before .before .match .keys1, ← c .before .before .add-with .ensures .0, ← c .before .before .add-with .ensures .1 .0, c .refusals-after .ensures)
@@ -42,11 +27,8 @@ pub pass-spec : {M : Type 1} → statement M
 pass-spec =
     tie.close
     (tie.spec
-    add-with-requires
-    refusals-after-requires
-    reset-requires
-    rule-of-requires
-    set-tie-rule-requires
+    (λ c κs. search needs) (λ c κs. search needs) (λ c κs. search needs) (λ c κs. search needs)
+    (λ c κs. search needs)
     returns
     returns-2
     returns-3

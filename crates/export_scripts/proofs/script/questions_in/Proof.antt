@@ -19,27 +19,12 @@ abbrev μ-loop : tie.MeasureT-loop
 loop-holds : tie.Need-loop-holds Inv-loop μ-loop
 loop-holds c = (omega arith, omega arith, omega arith)
 
-add-loop : tie.Need-add-loop Inv-loop μ-loop
-add-loop c = search needs
-
-shared-slice-read-asked : tie.Need-shared-slice-read-asked Inv-loop μ-loop
-shared-slice-read-asked c = search needs
-
-asked-requires : tie.Need-asked-requires Inv-loop μ-loop
-asked-requires c κs = search needs
-
 -- what is added
 one : (c : tie.After-asked Inv-loop μ-loop) → c .asked .result ≤ 1
 one c = rw (c .asked .ensures) (one-at-most (ltb (getD (c .before .before .before .before .before .args .script .now) (c .before .before .before .loop .i) 0) 3))
 
 add-n : tie.Need-add-n Inv-loop μ-loop
 add-n c = omega (arith, one c)
-
-add-i : tie.Need-add-i Inv-loop μ-loop
-add-i c = search needs
-
-loop-less : tie.Need-loop-less Inv-loop μ-loop
-loop-less c = search needs
 
 loop-again : tie.Need-loop-again Inv-loop μ-loop
 loop-again c =
@@ -59,11 +44,8 @@ questions-in-spec =
     Inv-loop
     μ-loop
     loop-holds
-    add-loop
-    shared-slice-read-asked
-    asked-requires
+    (λ c. search needs) (λ c. search needs) (λ c κs. search needs)
     add-n
-    add-i
-    loop-less
+    (λ c. search needs) (λ c. search needs)
     loop-again
     returns)

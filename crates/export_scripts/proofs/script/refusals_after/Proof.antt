@@ -4,15 +4,6 @@ use borrow.Author.Needs.{needs}
 use Rattle.export_scripts.proofs.script.refusals_after.Statement.{statement}
 use Rattle.export_scripts.proofs.script.refusals_after.Tie as tie
 
-enum-told : tie.Need-enum-told
-enum-told c = search needs
-
-enum-told-2 : tie.Need-enum-told-2
-enum-told-2 c = search needs
-
-add-result : tie.Need-add-result
-add-result c = search needs
-
 returns : tie.Need-returns
 returns c = rw (c .before .enum-told2 .given .1) (omega arith)
 
@@ -26,9 +17,7 @@ pub refusals-after-spec : {M : Type 1} → statement M
 refusals-after-spec =
     tie.close
     (tie.spec
-    enum-told
-    enum-told-2
-    add-result
+    (λ c. search needs) (λ c. search needs) (λ c. search needs)
     returns
     returns-2
     returns-3)

@@ -25,45 +25,12 @@ abbrev μ-loop : tie.MeasureT-loop
 loop-holds : tie.Need-loop-holds Inv-loop μ-loop
 loop-holds c = (omega arith, refl, search needs)
 
-add-loop : tie.Need-add-loop Inv-loop μ-loop
-add-loop c = search needs
-
-shared-slice-read-amount-at : tie.Need-shared-slice-read-amount-at Inv-loop μ-loop
-shared-slice-read-amount-at c = search needs
-
-amount-at-requires : tie.Need-amount-at-requires Inv-loop μ-loop
-amount-at-requires c κs = search needs
-
-wrapping-add-u64-requires : tie.Need-wrapping-add-u64-requires Inv-loop μ-loop
-wrapping-add-u64-requires c κs = search needs
-
-shared-slice-read-step : tie.Need-shared-slice-read-step Inv-loop μ-loop
-shared-slice-read-step c = search needs
-
-add-step : tie.Need-add-step Inv-loop μ-loop
-add-step c = search needs
-
-shared-slice-read-step-2 : tie.Need-shared-slice-read-step-2 Inv-loop μ-loop
-shared-slice-read-step-2 c = search needs
-
-add-step-2 : tie.Need-add-step-2 Inv-loop μ-loop
-add-step-2 c = search needs
-
-shared-slice-read-step-3 : tie.Need-shared-slice-read-step-3 Inv-loop μ-loop
-shared-slice-read-step-3 c = search needs
-
-step-requires : tie.Need-step-requires Inv-loop μ-loop
-step-requires c κs = search needs
-
 -- the next place is a number of 64 bits
 small : (c : tie.In-loop Inv-loop μ-loop) → c .before .loop .i + 3 < 2 ^ 64
 small c = omega arith
 
 add-i : tie.Need-add-i Inv-loop μ-loop
 add-i c = omega (arith, small (c .before .before .before .before .before .before .before))
-
-loop-less : tie.Need-loop-less Inv-loop μ-loop
-loop-less c = search needs
 
 loop-again : tie.Need-loop-again Inv-loop μ-loop
 loop-again c =
@@ -94,17 +61,10 @@ add-run-spec =
     Inv-loop
     μ-loop
     loop-holds
-    add-loop
-    shared-slice-read-amount-at
-    amount-at-requires
-    wrapping-add-u64-requires
-    shared-slice-read-step
-    add-step
-    shared-slice-read-step-2
-    add-step-2
-    shared-slice-read-step-3
-    step-requires
+    (λ c. search needs) (λ c. search needs) (λ c κs. search needs) (λ c κs. search needs)
+    (λ c. search needs) (λ c. search needs) (λ c. search needs) (λ c. search needs)
+    (λ c. search needs) (λ c κs. search needs)
     add-i
-    loop-less
+    (λ c. search needs)
     loop-again
     returns)

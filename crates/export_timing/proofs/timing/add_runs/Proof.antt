@@ -20,15 +20,6 @@ abbrev μ-loop : tie.MeasureT-loop
 loop-holds : tie.Need-loop-holds Inv-loop μ-loop
 loop-holds c = (omega arith, omega arith)
 
-add-run-requires : tie.Need-add-run-requires Inv-loop μ-loop
-add-run-requires c κs = search needs
-
-add-n : tie.Need-add-n Inv-loop μ-loop
-add-n c = search needs
-
-loop-less : tie.Need-loop-less Inv-loop μ-loop
-loop-less c = search needs
-
 loop-again : tie.Need-loop-again Inv-loop μ-loop
 loop-again c =
     let l = c .before .before .loop in
@@ -50,8 +41,6 @@ add-runs-spec =
     Inv-loop
     μ-loop
     loop-holds
-    add-run-requires
-    add-n
-    loop-less
+    (λ c κs. search needs) (λ c. search needs) (λ c. search needs)
     loop-again
     returns)

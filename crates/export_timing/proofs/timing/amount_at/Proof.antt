@@ -7,20 +7,8 @@ use Rattle.export_timing.proofs.timing.amount_at.Tie as tie
 returns : tie.Need-returns
 returns c = rw (lt-ltb _ _ (c .if1 .taken))
 
-call-with-requires : tie.Need-call-with-requires
-call-with-requires c κs = search needs
-
-amount-requires : tie.Need-amount-requires
-amount-requires c κs = search needs
-
 returns-2 : tie.Need-returns-2
 returns-2 c = rw (le-ltb _ _ (c .before .before .before .if1 .left), eq-eqb _ _ (c .before .before .if2 .taken), ← c .before .call-with .ensures) (c .amount .ensures)
-
-call-full-requires : tie.Need-call-full-requires
-call-full-requires c κs = search needs
-
-amount-requires-2 : tie.Need-amount-requires-2
-amount-requires-2 c κs = search needs
 
 returns-3 : tie.Need-returns-3
 returns-3 c = rw (le-ltb _ _ (c .before .before .before .if1 .left), ne-eqb _ _ (c .before .before .if2 .left), ← c .before .call-full .ensures) (c .amount2 .ensures)
@@ -30,9 +18,7 @@ amount-at-spec =
     tie.close
     (tie.spec
     returns
-    call-with-requires
-    amount-requires
+    (λ c κs. search needs) (λ c κs. search needs)
     returns-2
-    call-full-requires
-    amount-requires-2
+    (λ c κs. search needs) (λ c κs. search needs)
     returns-3)

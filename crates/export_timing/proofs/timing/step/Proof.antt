@@ -8,18 +8,6 @@ use borrow.Author.Needs.{needs}
 use Rattle.export_timing.proofs.timing.step.Statement.{statement}
 use Rattle.export_timing.proofs.timing.step.Tie as tie
 
-add-with-requires : tie.Need-add-with-requires
-add-with-requires c κs = search needs
-
-reset-requires : tie.Need-reset-requires
-reset-requires c κs = search needs
-
-rule-of-requires : tie.Need-rule-of-requires
-rule-of-requires c κs = search needs
-
-set-tie-rule-requires : tie.Need-set-tie-rule-requires
-set-tie-rule-requires c κs = search needs
-
 returns : tie.Need-returns
 unfolding itemOf stepped step
 returns c = rw (c .before .before .match .keys1) (c .before .add-with .ensures .0)
@@ -40,10 +28,7 @@ pub step-spec : {M : Type 1} → statement M
 step-spec =
     tie.close
     (tie.spec
-    add-with-requires
-    reset-requires
-    rule-of-requires
-    set-tie-rule-requires
+    (λ c κs. search needs) (λ c κs. search needs) (λ c κs. search needs) (λ c κs. search needs)
     returns
     returns-2
     returns-3

@@ -10,30 +10,9 @@ returns : tie.Need-returns
 unfolding timesOf
 returns c = rw (lt-leb _ _ (c .if1 .taken))
 
-is-script-requires : tie.Need-is-script-requires
-is-script-requires c κs = search needs
-
 returns-2 : tie.Need-returns-2
 unfolding timesOf
 returns-2 c = rw (le-leb _ _ (c .before .before .if1 .left), sym (c .before .is-script .ensures) ∙ not-true (c .before .is-script .result) (c .if2 .taken))
-
-compute-requires : tie.Need-compute-requires
-compute-requires c κs = search needs
-
-build-unanimous-gap-tables-requires : tie.Need-build-unanimous-gap-tables-requires
-build-unanimous-gap-tables-requires c κs = search needs
-
-new-requires : tie.Need-new-requires
-new-requires c κs = search needs
-
-rule-of-requires : tie.Need-rule-of-requires
-rule-of-requires c κs = search needs
-
-with-tie-rule-requires : tie.Need-with-tie-rule-requires
-with-tie-rule-requires c κs = search needs
-
-add-runs-requires : tie.Need-add-runs-requires
-add-runs-requires c κs = search needs
 
 returns-3 : tie.Need-returns-3
 unfolding timesOf
@@ -44,12 +23,8 @@ times-spec =
     tie.close
     (tie.spec
     returns
-    is-script-requires
+    (λ c κs. search needs)
     returns-2
-    compute-requires
-    build-unanimous-gap-tables-requires
-    new-requires
-    rule-of-requires
-    with-tie-rule-requires
-    add-runs-requires
+    (λ c κs. search needs) (λ c κs. search needs) (λ c κs. search needs) (λ c κs. search needs)
+    (λ c κs. search needs) (λ c κs. search needs)
     returns-3)

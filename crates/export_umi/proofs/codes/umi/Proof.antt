@@ -12,42 +12,6 @@ use borrow.Author.Needs.{needs}
 use Rattle.export_umi.proofs.codes.umi.Statement.{statement}
 use Rattle.export_umi.proofs.codes.umi.Tie as tie
 
-default-requires : tie.Need-default-requires
-default-requires c κs = search needs
-
-call-consensus-requires : tie.Need-call-consensus-requires
-call-consensus-requires c κs = search needs
-
-answer-code-requires : tie.Need-answer-code-requires
-answer-code-requires c κs = search needs
-
-default-requires-2 : tie.Need-default-requires-2
-default-requires-2 c κs = search needs
-
-consensus-requires : tie.Need-consensus-requires
-consensus-requires c κs = search needs
-
-flagged-code-requires : tie.Need-flagged-code-requires
-flagged-code-requires c κs = search needs
-
-consensus-umis-requires : tie.Need-consensus-umis-requires
-consensus-umis-requires c κs = search needs
-
-answer-code-requires-2 : tie.Need-answer-code-requires-2
-answer-code-requires-2 c κs = search needs
-
-default-requires-3 : tie.Need-default-requires-3
-default-requires-3 c κs = search needs
-
-consensus-duplex-requires : tie.Need-consensus-duplex-requires
-consensus-duplex-requires c κs = search needs
-
-duplex-code-requires : tie.Need-duplex-code-requires
-duplex-code-requires c κs = search needs
-
-same-length : tie.Need-same-length
-same-length c = search needs
-
 returns : tie.Need-returns
 unfolding umiReply umiBuffer
 returns c =
@@ -57,9 +21,6 @@ returns c =
     (coded answerOf answerCode (bufferAfter (s .out .now))
     (λ (x : SimpleConsensusCaller). callConsensusIn x (s .set .now) (s .out .now)) _ defaultCaller (k .before .before .default .ensures)
     _ _ _ (c .answer-code .ensures) (k .call-consensus .ensures .0) (k .call-consensus .ensures .1 .1 .0))
-
-same-length-2 : tie.Need-same-length-2
-same-length-2 c = search needs
 
 returns-2 : tie.Need-returns-2
 unfolding umiReply umiBuffer
@@ -71,17 +32,11 @@ returns-2 c =
     (λ (x : SimpleConsensusCaller). consensusIn x (s .set .now) (s .out .now)) _ defaultCaller (k .before .before .default2 .ensures)
     _ _ _ (c .flagged-code .ensures) (k .consensus .ensures .0) (k .consensus .ensures .1 .1 .0))
 
-same-length-3 : tie.Need-same-length-3
-same-length-3 c = search needs
-
 returns-3 : tie.Need-returns-3
 unfolding umiReply umiBuffer
 returns-3 c =
     let k = c .before .before .before in
     rw (k .before .before .match .keys3) (c .answer-code2 .ensures ∙ ap answerCode (k .consensus-umis .ensures .0), k .consensus-umis .ensures .1 .0)
-
-same-length-4 : tie.Need-same-length-4
-same-length-4 c = search needs
 
 returns-4 : tie.Need-returns-4
 unfolding umiReply umiBuffer
@@ -103,23 +58,14 @@ pub umi-spec : {M : Type 1} → statement M
 umi-spec =
     tie.close
     (tie.spec
-    default-requires
-    call-consensus-requires
-    answer-code-requires
-    default-requires-2
-    consensus-requires
-    flagged-code-requires
-    consensus-umis-requires
-    answer-code-requires-2
-    default-requires-3
-    consensus-duplex-requires
-    duplex-code-requires
-    same-length
+    (λ c κs. search needs) (λ c κs. search needs) (λ c κs. search needs) (λ c κs. search needs)
+    (λ c κs. search needs) (λ c κs. search needs) (λ c κs. search needs) (λ c κs. search needs)
+    (λ c κs. search needs) (λ c κs. search needs) (λ c κs. search needs) (λ c. search needs)
     returns
-    same-length-2
+    (λ c. search needs)
     returns-2
-    same-length-3
+    (λ c. search needs)
     returns-3
-    same-length-4
+    (λ c. search needs)
     returns-4
     returns-5)

@@ -40,21 +40,6 @@ short m =
 inside : (m : tie.After-answer) → m .answer .given .0 .0 ≤ length (m .before .before .before .before .before .before .call-consensus .last .1 .1 .0)
 inside m = given-inside room _ _ (found (m .before .before)) (short m) (gives m) (said (m .before .before) .1 .1)
 
-slice-aggregate-call-consensus : tie.Need-slice-aggregate-call-consensus
-slice-aggregate-call-consensus c = search needs
-
-call-consensus-requires : tie.Need-call-consensus-requires
-call-consensus-requires c κs = search needs
-
-answer-code-requires : tie.Need-answer-code-requires
-answer-code-requires c κs = search needs
-
-enum-told : tie.Need-enum-told
-enum-told c = search needs
-
-enum-known-answer : tie.Need-enum-known-answer
-enum-known-answer c = search needs
-
 array-share-prefix-text : tie.Need-array-share-prefix-text
 array-share-prefix-text c = inside (c .before)
 
@@ -63,18 +48,12 @@ slice-aggregate-send c =
     let m = c .before .before in
     sym (length-take-le (m .answer .given .0 .0) (m .before .before .before .before .before .before .call-consensus .last .1 .1 .0) (inside m))
 
-send-requires : tie.Need-send-requires
-send-requires c κs = search needs
-
 returns : tie.Need-returns
 returns c =
     let k = c .before .before in
     let s = k .before .before .before .before .before .before .before .before .args in
     not-sent (k .answer-code .result) (answerCode (answerOf (found k))) (k .answer-code .ensures ∙ ap answerCode (said k .0)) (s .out .now) (found k)
     (answer-refuses (k .before .before .before .before .call-consensus .result .answer) (found k) (said k .0) _ (c .enum-told .given .1))
-
-same-length : tie.Need-same-length
-same-length c = search needs
 
 returns-2 : tie.Need-returns-2
 returns-2 c =
@@ -91,14 +70,11 @@ pub send-call-spec : {M : Type 1} → statement M
 send-call-spec =
     tie.close
     (tie.spec
-    slice-aggregate-call-consensus
-    call-consensus-requires
-    answer-code-requires
-    enum-told
-    enum-known-answer
+    (λ c. search needs) (λ c κs. search needs) (λ c κs. search needs) (λ c. search needs)
+    (λ c. search needs)
     array-share-prefix-text
     slice-aggregate-send
-    send-requires
+    (λ c κs. search needs)
     returns
-    same-length
+    (λ c. search needs)
     returns-2)

@@ -45,24 +45,6 @@ short m =
 inside : (m : tie.After-answer) → m .answer .given .0 .0 ≤ length (m .before .before .before .before .before .before .before .consensus .last .1 .1 .0)
 inside m = given-inside room _ _ (found (m .before .before)) (short m) (gives m) (said (m .before .before) .1 .1)
 
-new-requires : tie.Need-new-requires
-new-requires c κs = search needs
-
-slice-aggregate-consensus : tie.Need-slice-aggregate-consensus
-slice-aggregate-consensus c = search needs
-
-consensus-requires : tie.Need-consensus-requires
-consensus-requires c κs = search needs
-
-flagged-code-requires : tie.Need-flagged-code-requires
-flagged-code-requires c κs = search needs
-
-enum-told : tie.Need-enum-told
-enum-told c = search needs
-
-enum-known-answer : tie.Need-enum-known-answer
-enum-known-answer c = search needs
-
 array-share-prefix-text : tie.Need-array-share-prefix-text
 array-share-prefix-text c = inside (c .before)
 
@@ -71,18 +53,12 @@ slice-aggregate-send c =
     let m = c .before .before in
     sym (length-take-le (m .answer .given .0 .0) (m .before .before .before .before .before .before .before .consensus .last .1 .1 .0) (inside m))
 
-send-requires : tie.Need-send-requires
-send-requires c κs = search needs
-
 returns : tie.Need-returns
 returns c =
     let k = c .before .before in
     let s = k .before .before .before .before .before .before .before .before .before .before .args in
     not-sent (k .flagged-code .result) (flaggedCode (flaggedOf (found k))) (k .flagged-code .ensures ∙ ap flaggedCode (said k .0)) (s .out .now) (found k)
     (flagged-refuses (k .before .before .before .before .before .consensus .result .answer) (found k) (said k .0) _ (c .enum-told .given .1))
-
-same-length : tie.Need-same-length
-same-length c = search needs
 
 returns-2 : tie.Need-returns-2
 returns-2 c =
@@ -99,15 +75,11 @@ pub send-consensus-spec : {M : Type 1} → statement M
 send-consensus-spec =
     tie.close
     (tie.spec
-    new-requires
-    slice-aggregate-consensus
-    consensus-requires
-    flagged-code-requires
-    enum-told
-    enum-known-answer
+    (λ c κs. search needs) (λ c. search needs) (λ c κs. search needs) (λ c κs. search needs)
+    (λ c. search needs) (λ c. search needs)
     array-share-prefix-text
     slice-aggregate-send
-    send-requires
+    (λ c κs. search needs)
     returns
-    same-length
+    (λ c. search needs)
     returns-2)

@@ -45,24 +45,6 @@ short m =
 inside : (m : tie.After-answer) → m .answer .given .0 .0 ≤ length (m .before .before .before .before .before .before .before .consensus-duplex .last .1 .1 .0)
 inside m = given-inside room _ _ (pairFound (found (m .before .before))) (short m) (gives m) (said (m .before .before) .1 .1)
 
-new-requires : tie.Need-new-requires
-new-requires c κs = search needs
-
-slice-aggregate-consensus-duplex : tie.Need-slice-aggregate-consensus-duplex
-slice-aggregate-consensus-duplex c = search needs
-
-consensus-duplex-requires : tie.Need-consensus-duplex-requires
-consensus-duplex-requires c κs = search needs
-
-duplex-code-requires : tie.Need-duplex-code-requires
-duplex-code-requires c κs = search needs
-
-enum-told : tie.Need-enum-told
-enum-told c = search needs
-
-enum-known-answer : tie.Need-enum-known-answer
-enum-known-answer c = search needs
-
 array-share-prefix-text : tie.Need-array-share-prefix-text
 array-share-prefix-text c = inside (c .before)
 
@@ -71,18 +53,12 @@ slice-aggregate-send c =
     let m = c .before .before in
     sym (length-take-le (m .answer .given .0 .0) (m .before .before .before .before .before .before .before .consensus-duplex .last .1 .1 .0) (inside m))
 
-send-requires : tie.Need-send-requires
-send-requires c κs = search needs
-
 returns : tie.Need-returns
 returns c =
     let k = c .before .before in
     let s = k .before .before .before .before .before .before .before .before .before .before .args in
     not-sent (k .duplex-code .result) (duplexCode (duplexAnswerOf (found k))) (k .duplex-code .ensures ∙ ap duplexCode (said k .0)) (s .out .now) (pairFound (found k))
     (duplex-refuses (k .before .before .before .before .before .consensus-duplex .result .answer) (found k) (said k .0) _ (c .enum-told .given .1))
-
-same-length : tie.Need-same-length
-same-length c = search needs
 
 returns-2 : tie.Need-returns-2
 returns-2 c =
@@ -99,15 +75,11 @@ pub send-duplex-spec : {M : Type 1} → statement M
 send-duplex-spec =
     tie.close
     (tie.spec
-    new-requires
-    slice-aggregate-consensus-duplex
-    consensus-duplex-requires
-    duplex-code-requires
-    enum-told
-    enum-known-answer
+    (λ c κs. search needs) (λ c. search needs) (λ c κs. search needs) (λ c κs. search needs)
+    (λ c. search needs) (λ c. search needs)
     array-share-prefix-text
     slice-aggregate-send
-    send-requires
+    (λ c κs. search needs)
     returns
-    same-length
+    (λ c. search needs)
     returns-2)

@@ -6,21 +6,6 @@ use borrow.Author.Needs.{needs}
 use Rattle.export_umi.proofs.sent.umi_caller.Statement.{statement}
 use Rattle.export_umi.proofs.sent.umi_caller.Tie as tie
 
-new-requires : tie.Need-new-requires
-new-requires c κs = search needs
-
-send-call-requires : tie.Need-send-call-requires
-send-call-requires c κs = search needs
-
-send-consensus-requires : tie.Need-send-consensus-requires
-send-consensus-requires c κs = search needs
-
-send-duplex-requires : tie.Need-send-duplex-requires
-send-duplex-requires c κs = search needs
-
-same-length : tie.Need-same-length
-same-length c = search needs
-
 returns : tie.Need-returns
 unfolding callerReply callerBuffer
 returns c =
@@ -28,18 +13,12 @@ returns c =
     let n = k .before .before .before in
     rw (k .before .before .match .keys1, ← n .new .ensures) (k .send-call .ensures)
 
-same-length-2 : tie.Need-same-length-2
-same-length-2 c = search needs
-
 returns-2 : tie.Need-returns-2
 unfolding callerReply callerBuffer
 returns-2 c =
     let k = c .before .before in
     let n = k .before .before .before in
     rw (k .before .before .match .keys2, ← n .new .ensures) (k .send-consensus .ensures)
-
-same-length-3 : tie.Need-same-length-3
-same-length-3 c = search needs
 
 returns-3 : tie.Need-returns-3
 unfolding callerReply callerBuffer
@@ -58,14 +37,11 @@ pub umi-caller-spec : {M : Type 1} → statement M
 umi-caller-spec =
     tie.close
     (tie.spec
-    new-requires
-    send-call-requires
-    send-consensus-requires
-    send-duplex-requires
-    same-length
+    (λ c κs. search needs) (λ c κs. search needs) (λ c κs. search needs) (λ c κs. search needs)
+    (λ c. search needs)
     returns
-    same-length-2
+    (λ c. search needs)
     returns-2
-    same-length-3
+    (λ c. search needs)
     returns-3
     returns-4)

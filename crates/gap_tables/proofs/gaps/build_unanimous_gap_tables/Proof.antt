@@ -5,18 +5,6 @@ use borrow.Author.Needs.{needs}
 use Rattle.gap_tables.proofs.gaps.build_unanimous_gap_tables.Statement.{statement}
 use Rattle.gap_tables.proofs.gaps.build_unanimous_gap_tables.Tie as tie
 
-build-unanimous-gap-thresholds-requires : tie.Need-build-unanimous-gap-thresholds-requires
-build-unanimous-gap-thresholds-requires c κs = search needs
-
-phred-to-ln-error-prob-requires : tie.Need-phred-to-ln-error-prob-requires
-phred-to-ln-error-prob-requires c κs = search needs
-
-ln-prob-to-phred-requires : tie.Need-ln-prob-to-phred-requires
-ln-prob-to-phred-requires c κs = search needs
-
-wide-requires : tie.Need-wide-requires
-wide-requires c κs = search needs
-
 cerr-table-requires : tie.Need-cerr-table-requires
 cerr-table-requires c κs = rw (c .before .wide .ensures, c .before .before .ln-prob-to-phred .ensures) (levels _ .1)
 
@@ -28,9 +16,6 @@ pub build-unanimous-gap-tables-spec : {M : Type 1} → statement M
 build-unanimous-gap-tables-spec =
     tie.close
     (tie.spec
-    build-unanimous-gap-thresholds-requires
-    phred-to-ln-error-prob-requires
-    ln-prob-to-phred-requires
-    wide-requires
+    (λ c κs. search needs) (λ c κs. search needs) (λ c κs. search needs) (λ c κs. search needs)
     cerr-table-requires
     returns)

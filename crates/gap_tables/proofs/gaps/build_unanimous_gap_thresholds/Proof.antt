@@ -3,18 +3,6 @@ use borrow.Author.Needs.{needs}
 use Rattle.gap_tables.proofs.gaps.build_unanimous_gap_thresholds.Statement.{statement}
 use Rattle.gap_tables.proofs.gaps.build_unanimous_gap_thresholds.Tie as tie
 
-phred-to-ln-error-prob-requires : tie.Need-phred-to-ln-error-prob-requires
-phred-to-ln-error-prob-requires c κs = search needs
-
-unanimous-quality-from-gap-requires : tie.Need-unanimous-quality-from-gap-requires
-unanimous-quality-from-gap-requires c κs = search needs
-
-unanimous-quality-from-gap-requires-2 : tie.Need-unanimous-quality-from-gap-requires-2
-unanimous-quality-from-gap-requires-2 c κs = search needs
-
-threshold-table-requires : tie.Need-threshold-table-requires
-threshold-table-requires c κs = search needs
-
 returns : tie.Need-returns
 returns c = rw (c .before .unanimous-quality-from-gap2 .ensures, c .before .before .unanimous-quality-from-gap .ensures, c .before .before .before .phred-to-ln-error-prob .ensures) at (c .threshold-table .ensures)
 
@@ -22,8 +10,5 @@ pub build-unanimous-gap-thresholds-spec : {M : Type 1} → statement M
 build-unanimous-gap-thresholds-spec =
     tie.close
     (tie.spec
-    phred-to-ln-error-prob-requires
-    unanimous-quality-from-gap-requires
-    unanimous-quality-from-gap-requires-2
-    threshold-table-requires
+    (λ c κs. search needs) (λ c κs. search needs) (λ c κs. search needs) (λ c κs. search needs)
     returns)

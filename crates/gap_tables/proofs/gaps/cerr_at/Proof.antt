@@ -5,18 +5,6 @@ use borrow.Author.Needs.{needs}
 use Rattle.gap_tables.proofs.gaps.cerr_at.Statement.{statement}
 use Rattle.gap_tables.proofs.gaps.cerr_at.Tie as tie
 
-add-consensus-error : tie.Need-add-consensus-error
-add-consensus-error c = search needs
-
-mul-consensus-error : tie.Need-mul-consensus-error
-mul-consensus-error c = search needs
-
-element-copy-out-consensus-error : tie.Need-element-copy-out-consensus-error
-element-copy-out-consensus-error c = search needs
-
-consensus-error-requires : tie.Need-consensus-error-requires
-consensus-error-requires c κs = search needs
-
 returns : tie.Need-returns
 unfolding cerrFrom
 returns c = rw (lt-ltb _ _ (c .before .before .if1 .taken)) (c .consensus-error .ensures)
@@ -29,9 +17,6 @@ pub cerr-at-spec : {M : Type 1} → statement M
 cerr-at-spec =
     tie.close
     (tie.spec
-    add-consensus-error
-    mul-consensus-error
-    element-copy-out-consensus-error
-    consensus-error-requires
+    (λ c. search needs) (λ c. search needs) (λ c. search needs) (λ c κs. search needs)
     returns
     returns-2)

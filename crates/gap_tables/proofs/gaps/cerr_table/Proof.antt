@@ -19,21 +19,6 @@ abbrev μ-loop : tie.MeasureT-loop
 loop-holds : tie.Need-loop-holds Inv-loop μ-loop
 loop-holds c = (refl, omega arith, (λ k h. absurd (not-suc-le-zero h)))
 
-cerr-at-requires : tie.Need-cerr-at-requires Inv-loop μ-loop
-cerr-at-requires c κs = search needs
-
-mul-table : tie.Need-mul-table Inv-loop μ-loop
-mul-table c = search needs
-
-array-write-table : tie.Need-array-write-table Inv-loop μ-loop
-array-write-table c = search needs
-
-add-q : tie.Need-add-q Inv-loop μ-loop
-add-q c = omega arith
-
-loop-less : tie.Need-loop-less Inv-loop μ-loop
-loop-less c = omega arith
-
 loop-again : tie.Need-loop-again Inv-loop μ-loop
 loop-again c =
     let l = c .before .before .loop in
@@ -49,10 +34,7 @@ cerr-table-spec =
     Inv-loop
     μ-loop
     loop-holds
-    cerr-at-requires
-    mul-table
-    array-write-table
-    add-q
-    loop-less
+    (λ c κs. search needs) (λ c. search needs) (λ c. search needs) (λ c. omega arith)
+    (λ c. omega arith)
     loop-again
     returns)

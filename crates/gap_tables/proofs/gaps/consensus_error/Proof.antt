@@ -4,12 +4,9 @@ use borrow.Author.Needs.{needs}
 use Rattle.gap_tables.proofs.gaps.consensus_error.Statement.{statement}
 use Rattle.gap_tables.proofs.gaps.consensus_error.Tie as tie
 
-exp-requires : tie.Need-exp-requires
-exp-requires c κs = search needs
-
 returns : tie.Need-returns
 unfolding consensusError
 returns c = rw (c .exp .ensures)
 
 pub consensus-error-spec : {M : Type 1} → statement M
-consensus-error-spec = tie.close (tie.spec exp-requires returns)
+consensus-error-spec = tie.close (tie.spec (λ c κs. search needs) returns)

@@ -19,15 +19,6 @@ loop-holds : tie.Need-loop-holds Inv-loop μ-loop
 unfolding halvings
 loop-holds c = (omega arith, refl)
 
-halve-requires : tie.Need-halve-requires Inv-loop μ-loop
-halve-requires c κs = tt
-
-add-i : tie.Need-add-i Inv-loop μ-loop
-add-i c = omega arith
-
-loop-less : tie.Need-loop-less Inv-loop μ-loop
-loop-less c = omega arith
-
 loop-again : tie.Need-loop-again Inv-loop μ-loop
 unfolding halvings
 loop-again c =
@@ -43,4 +34,6 @@ returns c =
 pub bisect-spec : {M : Type 1} → statement M
 bisect-spec =
     tie.close
-    (tie.spec Inv-loop μ-loop loop-holds halve-requires add-i loop-less loop-again returns)
+    (tie.spec
+    Inv-loop μ-loop loop-holds (λ c κs. tt) (λ c. omega arith) (λ c. omega arith) loop-again
+    returns)

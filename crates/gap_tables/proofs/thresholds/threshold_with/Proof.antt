@@ -9,9 +9,6 @@ returns : tie.Need-returns
 unfolding thresholdWith
 returns c = rw (le-leb _ _ (c .if1 .taken))
 
-bisect-requires : tie.Need-bisect-requires
-bisect-requires c κs = search needs
-
 returns-2 : tie.Need-returns-2
 unfolding thresholdWith
 returns-2 c = rw (lt-leb _ _ (c .before .before .if1 .left), le-leb _ _ (c .before .if2 .taken)) (c .bisect .ensures)
@@ -21,4 +18,4 @@ unfolding thresholdWith
 returns-3 c = rw (lt-leb _ _ (c .before .if1 .left), lt-leb _ _ (c .if2 .left))
 
 pub threshold-with-spec : {M : Type 1} → statement M
-threshold-with-spec = tie.close (tie.spec returns bisect-requires returns-2 returns-3)
+threshold-with-spec = tie.close (tie.spec returns (λ c κs. search needs) returns-2 returns-3)

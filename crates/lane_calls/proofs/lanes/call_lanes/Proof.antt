@@ -4,35 +4,8 @@ use Rattle.lane_calls.proofs.AddedTests.{named-reply, unnamed-reply, na
 use Rattle.lane_calls.proofs.lanes.call_lanes.Statement.{statement}
 use Rattle.lane_calls.proofs.lanes.call_lanes.Tie as tie
 
-max-lane-with-requires : tie.Need-max-lane-with-requires
-max-lane-with-requires c κs = search needs
-
-no-call-requires : tie.Need-no-call-requires
-no-call-requires c κs = search needs
-
 returns : tie.Need-returns
 returns c = let e = c .before .before .max-lane-with .ensures in rw (unnamed-reply _ _ _ _ e (c .before .if1 .taken), unnamed-full _ _ _ _ e (c .before .if1 .taken)) (c .no-call .ensures)
-
-mul-m : tie.Need-mul-m
-mul-m c = search needs
-
-array-read-m : tie.Need-array-read-m
-array-read-m c = search needs
-
-reply-of-lane-requires : tie.Need-reply-of-lane-requires
-reply-of-lane-requires c κs = search needs
-
-enum-known-short : tie.Need-enum-known-short
-enum-known-short c = search needs
-
-enum-told : tie.Need-enum-told
-enum-told c = search needs
-
-full-quality-requires : tie.Need-full-quality-requires
-full-quality-requires c κs = search needs
-
-called-requires : tie.Need-called-requires
-called-requires c κs = search needs
 
 returns-2 : tie.Need-returns-2
 returns-2 c =
@@ -50,15 +23,9 @@ pub call-lanes-spec : {M : Type 1} → statement M
 call-lanes-spec =
     tie.close
     (tie.spec
-    max-lane-with-requires
-    no-call-requires
+    (λ c κs. search needs) (λ c κs. search needs)
     returns
-    mul-m
-    array-read-m
-    reply-of-lane-requires
-    enum-known-short
-    enum-told
-    full-quality-requires
-    called-requires
+    (λ c. search needs) (λ c. search needs) (λ c κs. search needs) (λ c. search needs)
+    (λ c. search needs) (λ c κs. search needs) (λ c κs. search needs)
     returns-2
     returns-3)

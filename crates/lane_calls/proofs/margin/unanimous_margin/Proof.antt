@@ -4,15 +4,9 @@ use borrow.Author.Needs.{needs}
 use Rattle.lane_calls.proofs.margin.unanimous_margin.Statement.{statement}
 use Rattle.lane_calls.proofs.margin.unanimous_margin.Tie as tie
 
-abs-requires : tie.Need-abs-requires
-abs-requires c κs = search needs
-
-abs-requires-2 : tie.Need-abs-requires-2
-abs-requires-2 c κs = search needs
-
 returns : tie.Need-returns
 unfolding unanimousMargin
 returns c = rw (c .before .abs .ensures, c .abs2 .ensures)
 
 pub unanimous-margin-spec : {M : Type 1} → statement M
-unanimous-margin-spec = tie.close (tie.spec abs-requires abs-requires-2 returns)
+unanimous-margin-spec = tie.close (tie.spec (λ c κs. search needs) (λ c κs. search needs) returns)

@@ -3,11 +3,8 @@ use borrow.Author.Needs.{needs}
 use Rattle.lane_calls.proofs.multibase.delta.Statement.{statement}
 use Rattle.lane_calls.proofs.multibase.delta.Tie as tie
 
-max-requires : tie.Need-max-requires
-max-requires c κs = search needs
-
 returns : tie.Need-returns
 returns c = rw (c .max .ensures)
 
 pub delta-spec : {M : Type 1} → statement M
-delta-spec = tie.close (tie.spec max-requires returns)
+delta-spec = tie.close (tie.spec (λ c κs. search needs) returns)

@@ -14,30 +14,9 @@ Inv-loop m likelihoods largest₀ k₀ largest k = (k ≤ 4) × (largest ≡ mag
 abbrev μ-loop : tie.MeasureT-loop
 μ-loop m likelihoods largest₀ k₀ largest k = 4 - k
 
-abs-requires : tie.Need-abs-requires Inv-loop μ-loop
-abs-requires c κs = search needs
-
 loop-holds : tie.Need-loop-holds Inv-loop μ-loop
 unfolding magnitudeBelow
 loop-holds c = (omega arith, c .abs .ensures)
-
-mul-abs : tie.Need-mul-abs Inv-loop μ-loop
-mul-abs c = search needs
-
-array-read-abs : tie.Need-array-read-abs Inv-loop μ-loop
-array-read-abs c = search needs
-
-abs-requires-2 : tie.Need-abs-requires-2 Inv-loop μ-loop
-abs-requires-2 c κs = search needs
-
-max-requires : tie.Need-max-requires Inv-loop μ-loop
-max-requires c κs = search needs
-
-add-k : tie.Need-add-k Inv-loop μ-loop
-add-k c = omega arith
-
-loop-less : tie.Need-loop-less Inv-loop μ-loop
-loop-less c = omega arith
 
 loop-again : tie.Need-loop-again Inv-loop μ-loop
 unfolding magnitudeBelow
@@ -52,13 +31,9 @@ magnitude-spec =
     (tie.spec
     Inv-loop
     μ-loop
-    abs-requires
+    (λ c κs. search needs)
     loop-holds
-    mul-abs
-    array-read-abs
-    abs-requires-2
-    max-requires
-    add-k
-    loop-less
+    (λ c. search needs) (λ c. search needs) (λ c κs. search needs) (λ c κs. search needs)
+    (λ c. omega arith) (λ c. omega arith)
     loop-again
     returns)

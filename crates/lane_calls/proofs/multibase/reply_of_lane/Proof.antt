@@ -4,12 +4,6 @@ use borrow.Author.Needs.{needs}
 use Rattle.lane_calls.proofs.multibase.reply_of_lane.Statement.{statement}
 use Rattle.lane_calls.proofs.multibase.reply_of_lane.Tie as tie
 
-is-finite-requires : tie.Need-is-finite-requires
-is-finite-requires c κs = search needs
-
-rest-reply-requires : tie.Need-rest-reply-requires
-rest-reply-requires c κs = search needs
-
 returns : tie.Need-returns
 unfolding replyOfLane
 returns c = rw (← c .before .before .is-finite .ensures, c .before .if1 .taken) (c .rest-reply .ensures)
@@ -19,4 +13,7 @@ unfolding replyOfLane
 returns-2 c = rw (← c .before .is-finite .ensures, c .if1 .left)
 
 pub reply-of-lane-spec : {M : Type 1} → statement M
-reply-of-lane-spec = tie.close (tie.spec is-finite-requires rest-reply-requires returns returns-2)
+reply-of-lane-spec =
+    tie.close
+    (tie.spec
+    (λ c κs. search needs) (λ c κs. search needs) returns returns-2)

@@ -20,21 +20,6 @@ loop-holds : tie.Need-loop-holds Inv-loop μ-loop
 unfolding restBelow
 loop-holds c = (omega arith, refl)
 
-mul-exp : tie.Need-mul-exp Inv-loop μ-loop
-mul-exp c = search needs
-
-array-read-exp : tie.Need-array-read-exp Inv-loop μ-loop
-array-read-exp c = search needs
-
-exp-requires : tie.Need-exp-requires Inv-loop μ-loop
-exp-requires c κs = search needs
-
-add-k : tie.Need-add-k Inv-loop μ-loop
-add-k c = omega arith
-
-loop-less : tie.Need-loop-less Inv-loop μ-loop
-loop-less c = omega arith
-
 loop-again : tie.Need-loop-again Inv-loop μ-loop
 unfolding restBelow
 loop-again c =
@@ -57,10 +42,7 @@ rest-spec =
     Inv-loop
     μ-loop
     loop-holds
-    mul-exp
-    array-read-exp
-    exp-requires
-    add-k
-    loop-less
+    (λ c. search needs) (λ c. search needs) (λ c κs. search needs) (λ c. omega arith)
+    (λ c. omega arith)
     loop-again
     returns)

@@ -5,18 +5,6 @@ use borrow.Author.Needs.{needs}
 use Rattle.lane_calls.proofs.multibase.stable_reply.Statement.{statement}
 use Rattle.lane_calls.proofs.multibase.stable_reply.Tie as tie
 
-ln-prob-to-phred-requires : tie.Need-ln-prob-to-phred-requires
-ln-prob-to-phred-requires c κs = search needs
-
-ln-prob-to-phred-requires-2 : tie.Need-ln-prob-to-phred-requires-2
-ln-prob-to-phred-requires-2 c κs = search needs
-
-ln-prob-to-phred-requires-3 : tie.Need-ln-prob-to-phred-requires-3
-ln-prob-to-phred-requires-3 c κs = search needs
-
-called-requires : tie.Need-called-requires
-called-requires c κs = search needs
-
 returns : tie.Need-returns
 unfolding stableReply
 returns c = rw (← c .before .before .before .before .before .before .before .ln-prob-to-phred .ensures, ← c .before .before .before .before .before .before .ln-prob-to-phred2 .ensures, ← c .before .before .before .ln-prob-to-phred3 .ensures, eq-eqb _ _ (c .before .before .before .before .if1 .taken), eq-eqb _ _ (c .before .if2 .taken), c .called .ensures)
@@ -33,10 +21,7 @@ pub stable-reply-spec : {M : Type 1} → statement M
 stable-reply-spec =
     tie.close
     (tie.spec
-    ln-prob-to-phred-requires
-    ln-prob-to-phred-requires-2
-    ln-prob-to-phred-requires-3
-    called-requires
+    (λ c κs. search needs) (λ c κs. search needs) (λ c κs. search needs) (λ c κs. search needs)
     returns
     returns-2
     returns-3)

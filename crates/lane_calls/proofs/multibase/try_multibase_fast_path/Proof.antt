@@ -5,20 +5,8 @@ use Rattle.lane_calls.proofs.AddedTests.{named-reply, unnamed-reply}
 use Rattle.lane_calls.proofs.multibase.try_multibase_fast_path.Statement.{statement}
 use Rattle.lane_calls.proofs.multibase.try_multibase_fast_path.Tie as tie
 
-max-lane-with-requires : tie.Need-max-lane-with-requires
-max-lane-with-requires c κs = search needs
-
 returns : tie.Need-returns
 returns c = sym (unnamed-reply _ _ _ _ (c .before .max-lane-with .ensures) (c .if1 .taken))
-
-mul-reply-of-lane : tie.Need-mul-reply-of-lane
-mul-reply-of-lane c = search needs
-
-array-read-reply-of-lane : tie.Need-array-read-reply-of-lane
-array-read-reply-of-lane c = search needs
-
-reply-of-lane-requires : tie.Need-reply-of-lane-requires
-reply-of-lane-requires c κs = search needs
 
 returns-2 : tie.Need-returns-2
 returns-2 c = c .reply-of-lane .ensures ∙ sym (named-reply _ _ _ _ (c .before .before .max-lane-with .ensures) (c .before .if1 .left))
@@ -27,9 +15,7 @@ pub try-multibase-fast-path-spec : {M : Type 1} → statement M
 try-multibase-fast-path-spec =
     tie.close
     (tie.spec
-    max-lane-with-requires
+    (λ c κs. search needs)
     returns
-    mul-reply-of-lane
-    array-read-reply-of-lane
-    reply-of-lane-requires
+    (λ c. search needs) (λ c. search needs) (λ c κs. search needs)
     returns-2)

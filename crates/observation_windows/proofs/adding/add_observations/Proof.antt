@@ -23,20 +23,8 @@ Inv-loop observations rows left₀ after₀ i₀ left after i =
 abbrev μ-loop : tie.MeasureT-loop
 μ-loop observations rows left₀ after₀ i₀ left after i = length observations - i
 
-room-requires : tie.Need-room-requires Inv-loop μ-loop
-room-requires c κs = search needs
-
 loop-holds : tie.Need-loop-holds Inv-loop μ-loop
 loop-holds c = (omega arith, c .room .ensures, refl)
-
-add-loop : tie.Need-add-loop Inv-loop μ-loop
-add-loop c = search needs
-
-shared-slice-read-base : tie.Need-shared-slice-read-base Inv-loop μ-loop
-shared-slice-read-base c = search needs
-
-is-base-requires : tie.Need-is-base-requires Inv-loop μ-loop
-is-base-requires c κs = search needs
 
 returns : tie.Need-returns Inv-loop μ-loop
 returns c =
@@ -48,36 +36,6 @@ lane-of-base-requires : tie.Need-lane-of-base-requires Inv-loop μ-loop
 lane-of-base-requires c κs =
     let b = c .before .before in
     not-true _ (sym (b .is-base .ensures) ∙ c .before .if1 .taken)
-
-add-t18 : tie.Need-add-t18 Inv-loop μ-loop
-add-t18 c = search needs
-
-shared-slice-read-t20 : tie.Need-shared-slice-read-t20 Inv-loop μ-loop
-shared-slice-read-t20 c = search needs
-
-entry-requires : tie.Need-entry-requires Inv-loop μ-loop
-entry-requires c κs = search needs
-
-mul-step : tie.Need-mul-step Inv-loop μ-loop
-mul-step c = search needs
-
-sub-step : tie.Need-sub-step Inv-loop μ-loop
-sub-step c = search needs
-
-add-step : tie.Need-add-step Inv-loop μ-loop
-add-step c = search needs
-
-step-requires : tie.Need-step-requires Inv-loop μ-loop
-step-requires c κs = search needs
-
-sub-left : tie.Need-sub-left Inv-loop μ-loop
-sub-left c = search needs
-
-add-i : tie.Need-add-i Inv-loop μ-loop
-add-i c = search needs
-
-loop-less : tie.Need-loop-less Inv-loop μ-loop
-loop-less c = search needs
 
 loop-again : tie.Need-loop-again Inv-loop μ-loop
 loop-again c =
@@ -118,22 +76,13 @@ add-observations-spec =
     (tie.spec
     Inv-loop
     μ-loop
-    room-requires
+    (λ c κs. search needs)
     loop-holds
-    add-loop
-    shared-slice-read-base
-    is-base-requires
+    (λ c. search needs) (λ c. search needs) (λ c κs. search needs)
     returns
     lane-of-base-requires
-    add-t18
-    shared-slice-read-t20
-    entry-requires
-    mul-step
-    sub-step
-    add-step
-    step-requires
-    sub-left
-    add-i
-    loop-less
+    (λ c. search needs) (λ c. search needs) (λ c κs. search needs) (λ c. search needs)
+    (λ c. search needs) (λ c. search needs) (λ c κs. search needs) (λ c. search needs)
+    (λ c. search needs) (λ c. search needs)
     loop-again
     returns-2)

@@ -6,20 +6,14 @@ use Rattle.observation_windows.proofs.Bases.{lane-bits}
 use Rattle.observation_windows.proofs.adding.lane_of_base.Statement.{statement}
 use Rattle.observation_windows.proofs.adding.lane_of_base.Tie as tie
 
-cast-result : tie.Need-cast-result
-cast-result c = search needs
-
 returns : tie.Need-returns
 returns c = (rw (lt-ltb _ _ (c .if1 .taken)) at (lane-bits (c .before .args .base) (omega arith) (c .before .pre)), omega arith)
-
-sub-result : tie.Need-sub-result
-sub-result c = search needs
-
-cast-result-2 : tie.Need-cast-result-2
-cast-result-2 c = search needs
 
 returns-2 : tie.Need-returns-2
 returns-2 c = (rw (le-ltb _ _ (c .if1 .left)) at (lane-bits (c .before .args .base) (omega arith) (c .before .pre)), omega arith)
 
 pub lane-of-base-spec : {M : Type 1} → statement M
-lane-of-base-spec = tie.close (tie.spec cast-result returns sub-result cast-result-2 returns-2)
+lane-of-base-spec =
+    tie.close
+    (tie.spec
+    (λ c. search needs) returns (λ c. search needs) (λ c. search needs) returns-2)

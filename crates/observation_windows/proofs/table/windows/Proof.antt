@@ -19,21 +19,6 @@ abbrev μ-loop : tie.MeasureT-loop
 loop-holds : tie.Need-loop-holds Inv-loop μ-loop
 loop-holds c = (refl, omega arith, (λ k h. absurd (not-suc-le-zero h)))
 
-window-entry-requires : tie.Need-window-entry-requires Inv-loop μ-loop
-window-entry-requires c κs = search needs
-
-mul-rows : tie.Need-mul-rows Inv-loop μ-loop
-mul-rows c = search needs
-
-array-write-rows : tie.Need-array-write-rows Inv-loop μ-loop
-array-write-rows c = search needs
-
-add-i : tie.Need-add-i Inv-loop μ-loop
-add-i c = omega arith
-
-loop-less : tie.Need-loop-less Inv-loop μ-loop
-loop-less c = omega arith
-
 loop-again : tie.Need-loop-again Inv-loop μ-loop
 loop-again c =
     let l = c .before .before .loop in
@@ -50,10 +35,7 @@ windows-spec =
     Inv-loop
     μ-loop
     loop-holds
-    window-entry-requires
-    mul-rows
-    array-write-rows
-    add-i
-    loop-less
+    (λ c κs. search needs) (λ c. search needs) (λ c. search needs) (λ c. omega arith)
+    (λ c. omega arith)
     loop-again
     returns)

@@ -4,9 +4,6 @@ use Rattle.phred.specs.FourLanes.{firstTwo}
 use Rattle.phred.proofs.four_lanes.first_two.Statement.{statement}
 use Rattle.phred.proofs.four_lanes.first_two.Tie as tie
 
-least-of-requires : tie.Need-least-of-requires
-least-of-requires c κs = search needs
-
 returns : tie.Need-returns
 unfolding firstTwo
 returns c = rw (← c .before .least-of .ensures, c .if1 .taken)
@@ -16,4 +13,4 @@ unfolding firstTwo
 returns-2 c = rw (← c .before .least-of .ensures, c .if1 .left)
 
 pub first-two-spec : {M : Type 1} → statement M
-first-two-spec = tie.close (tie.spec least-of-requires returns returns-2)
+first-two-spec = tie.close (tie.spec (λ c κs. search needs) returns returns-2)

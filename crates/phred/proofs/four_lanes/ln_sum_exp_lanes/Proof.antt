@@ -9,27 +9,6 @@ use Rattle.phred.specs.FourLanes.{lnSumExpLanes}
 use Rattle.phred.proofs.four_lanes.ln_sum_exp_lanes.Statement.{statement}
 use Rattle.phred.proofs.four_lanes.ln_sum_exp_lanes.Tie as tie
 
-array-read-a : tie.Need-array-read-a
-array-read-a c = search needs
-
-array-read-b : tie.Need-array-read-b
-array-read-b c = search needs
-
-array-read-c : tie.Need-array-read-c
-array-read-c c = search needs
-
-array-read-d : tie.Need-array-read-d
-array-read-d c = search needs
-
-first-two-requires : tie.Need-first-two-requires
-first-two-requires c κs = search needs
-
-first-three-requires : tie.Need-first-three-requires
-first-three-requires c κs = search needs
-
-ln-sum-exp-four-requires : tie.Need-ln-sum-exp-four-requires
-ln-sum-exp-four-requires c κs = search needs
-
 returns : tie.Need-returns
 unfolding lnSumExpLanes
 returns c =
@@ -37,9 +16,6 @@ returns c =
     let n : length xs ≡ 4 = search needs in
     let r : c .ln-sum-exp-four .result ≡ lnSumExpLanes (getD xs 0 nan) (getD xs 1 nan) (getD xs 2 nan) (getD xs 3 nan) = rw (← c .before .before .before .before .first-two .ensures, ← c .before .before .before .first-three .ensures, c .before .if1 .taken) (c .ln-sum-exp-four .ensures) in
     r ∙ four-lanes _ _ _ _ ∙ sym (ap lnSumExpArray (four-of xs n))
-
-ln-sum-exp-four-requires-2 : tie.Need-ln-sum-exp-four-requires-2
-ln-sum-exp-four-requires-2 c κs = search needs
 
 returns-2 : tie.Need-returns-2
 unfolding lnSumExpLanes
@@ -53,13 +29,8 @@ pub ln-sum-exp-lanes-spec : {M : Type 1} → statement M
 ln-sum-exp-lanes-spec =
     tie.close
     (tie.spec
-    array-read-a
-    array-read-b
-    array-read-c
-    array-read-d
-    first-two-requires
-    first-three-requires
-    ln-sum-exp-four-requires
+    (λ c. search needs) (λ c. search needs) (λ c. search needs) (λ c. search needs)
+    (λ c κs. search needs) (λ c κs. search needs) (λ c κs. search needs)
     returns
-    ln-sum-exp-four-requires-2
+    (λ c κs. search needs)
     returns-2)

@@ -11,15 +11,6 @@ use borrow.Author.Needs.{needs}
 use Rattle.rate_tables.proofs.adjusted.adjusted_entry.Statement.{statement}
 use Rattle.rate_tables.proofs.adjusted.adjusted_entry.Tie as tie
 
-entry-quality-requires : tie.Need-entry-quality-requires
-entry-quality-requires c κs = search needs
-
-correct-at-requires : tie.Need-correct-at-requires
-correct-at-requires c κs = search needs
-
-error-per-alt-at-requires : tie.Need-error-per-alt-at-requires
-error-per-alt-at-requires c κs = search needs
-
 -- what a rule says at the quality is the table's entry there
 entry-at : (f : ℕ → Float) (qual q : ℕ) (x : Float) → q ≡ min qual 93 → x ≡ f q → x ≡ getD (levels f) (min qual 93) nan
 entry-at f qual q x e h = h ∙ ap f e ∙ sym (level-at f nan 94 (min qual 93) (omega arith))
@@ -31,4 +22,7 @@ returns c =
     (entry-at (correctAt _) _ _ _ q (c .before .correct-at .ensures), entry-at (errorPerAltAt _) _ _ _ q (c .error-per-alt-at .ensures))
 
 pub adjusted-entry-spec : {M : Type 1} → statement M
-adjusted-entry-spec = tie.close (tie.spec entry-quality-requires correct-at-requires error-per-alt-at-requires returns)
+adjusted-entry-spec =
+    tie.close
+    (tie.spec
+    (λ c κs. search needs) (λ c κs. search needs) (λ c κs. search needs) returns)

@@ -4,15 +4,9 @@ use borrow.Author.Needs.{needs}
 use Rattle.rate_tables.proofs.adjusted.correct_at.Statement.{statement}
 use Rattle.rate_tables.proofs.adjusted.correct_at.Tie as tie
 
-adjusted-error-requires : tie.Need-adjusted-error-requires
-adjusted-error-requires c κs = search needs
-
-ln-not-requires : tie.Need-ln-not-requires
-ln-not-requires c κs = search needs
-
 returns : tie.Need-returns
 unfolding correctAt
 returns c = rw (← c .before .adjusted-error .ensures) (c .ln-not .ensures)
 
 pub correct-at-spec : {M : Type 1} → statement M
-correct-at-spec = tie.close (tie.spec adjusted-error-requires ln-not-requires returns)
+correct-at-spec = tie.close (tie.spec (λ c κs. search needs) (λ c κs. search needs) returns)

@@ -4,15 +4,9 @@ use borrow.Author.Needs.{needs}
 use Rattle.rate_tables.proofs.adjusted.error_per_alt_at.Statement.{statement}
 use Rattle.rate_tables.proofs.adjusted.error_per_alt_at.Tie as tie
 
-adjusted-error-requires : tie.Need-adjusted-error-requires
-adjusted-error-requires c κs = search needs
-
-ln-requires : tie.Need-ln-requires
-ln-requires c κs = search needs
-
 returns : tie.Need-returns
 unfolding errorPerAltAt
 returns c = rw (c .before .before .adjusted-error .ensures, c .before .ln .ensures)
 
 pub error-per-alt-at-spec : {M : Type 1} → statement M
-error-per-alt-at-spec = tie.close (tie.spec adjusted-error-requires ln-requires returns)
+error-per-alt-at-spec = tie.close (tie.spec (λ c κs. search needs) (λ c κs. search needs) returns)

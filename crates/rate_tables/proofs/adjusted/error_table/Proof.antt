@@ -19,24 +19,6 @@ abbrev μ-loop : tie.MeasureT-loop
 loop-holds : tie.Need-loop-holds Inv-loop μ-loop
 loop-holds c = (refl, omega arith, (λ k h. absurd (not-suc-le-zero h)))
 
-cast-at : tie.Need-cast-at Inv-loop μ-loop
-cast-at c = search needs
-
-error-per-alt-at-requires : tie.Need-error-per-alt-at-requires Inv-loop μ-loop
-error-per-alt-at-requires c κs = search needs
-
-mul-table : tie.Need-mul-table Inv-loop μ-loop
-mul-table c = search needs
-
-array-write-table : tie.Need-array-write-table Inv-loop μ-loop
-array-write-table c = search needs
-
-add-q : tie.Need-add-q Inv-loop μ-loop
-add-q c = omega arith
-
-loop-less : tie.Need-loop-less Inv-loop μ-loop
-loop-less c = omega arith
-
 loop-again : tie.Need-loop-again Inv-loop μ-loop
 loop-again c =
     let l = c .before .before .loop in
@@ -52,11 +34,7 @@ error-table-spec =
     Inv-loop
     μ-loop
     loop-holds
-    cast-at
-    error-per-alt-at-requires
-    mul-table
-    array-write-table
-    add-q
-    loop-less
+    (λ c. search needs) (λ c κs. search needs) (λ c. search needs) (λ c. search needs)
+    (λ c. omega arith) (λ c. omega arith)
     loop-again
     returns)

@@ -39,12 +39,6 @@ alike-group c =
     gave-as (k .result) (s .args .out .now) (k .last .1 .1 .1 .1 .0) _ (answer s)
     (ap (λ (t : Result Found). andThen t (roomFor (s .args .out .now))) (sym (umis-alike (s .args .caller) (strings s) a))) (k .ensures .0)
 
-alike-requires : tie.Need-alike-requires
-alike-requires c κs = search needs
-
-refused-requires : tie.Need-refused-requires
-refused-requires c κs = search needs
-
 returns : tie.Need-returns
 returns c =
     let s = c .before .before .before .before .before .before in
@@ -53,24 +47,6 @@ returns c =
     (ended-refused answerOf (s .args .caller) (s .args .out .now) (c .refused .result .answer) (c .refused .result .caller) (answer s) _
     (ap (λ (t : Result Found). andThen t (roomFor (s .args .out .now))) (umis-unlike (s .args .caller) (strings s) a)) (c .refused .ensures .1) (c .refused .ensures .0))
     (refused-short (c .refused .result .answer) _ (c .refused .ensures .1))
-
-consensus-group-requires : tie.Need-consensus-group-requires
-consensus-group-requires c κs = search needs
-
-enum-known-verdict : tie.Need-enum-known-verdict
-enum-known-verdict c = search needs
-
-refused-requires-2 : tie.Need-refused-requires-2
-refused-requires-2 c κs = search needs
-
-enum-told : tie.Need-enum-told
-enum-told c = search needs
-
-with-builder-requires : tie.Need-with-builder-requires
-with-builder-requires c κs = search needs
-
-same-length : tie.Need-same-length
-same-length c = search needs
 
 returns-2 : tie.Need-returns-2
 returns-2 c =
@@ -82,9 +58,6 @@ returns-2 c =
     (ended-not-given answerOf (s .args .caller) (s .args .out .now) (x .answer) (x .caller) (k .last .1 .1 .1 .1 .0) (k .result) (answer s) (alike-group g) _
     (c .before .before .verdict .given .1) (c .refused2 .ensures .1) (c .refused2 .ensures .0))
     (refused-short (x .answer) _ (c .refused2 .ensures .1))
-
-same-length-2 : tie.Need-same-length-2
-same-length-2 c = search needs
 
 returns-3 : tie.Need-returns-3
 returns-3 c =
@@ -100,15 +73,10 @@ pub call-strings-spec : {M : Type 1} → statement M
 call-strings-spec =
     tie.close
     (tie.spec
-    alike-requires
-    refused-requires
+    (λ c κs. search needs) (λ c κs. search needs)
     returns
-    consensus-group-requires
-    enum-known-verdict
-    refused-requires-2
-    enum-told
-    with-builder-requires
-    same-length
+    (λ c κs. search needs) (λ c. search needs) (λ c κs. search needs) (λ c. search needs)
+    (λ c κs. search needs) (λ c. search needs)
     returns-2
-    same-length-2
+    (λ c. search needs)
     returns-3)

@@ -31,18 +31,6 @@ strings c =
     let r = c .before .before .read-places in
     read-strings (setOf c) (placesOf c) (replicate 255 0) (r .result) (r .ensures) (countOf c) (c .n .given .1)
 
-read-places-requires : tie.Need-read-places-requires
-read-places-requires c κs = search needs
-
-enum-known-r : tie.Need-enum-known-r
-enum-known-r c = search needs
-
-enum-known-n : tie.Need-enum-known-n
-enum-known-n c = search needs
-
-default-requires : tie.Need-default-requires
-default-requires c κs = search needs
-
 array-share-prefix-places : tie.Need-array-share-prefix-places
 array-share-prefix-places c = strings (c .before .before) .1
 
@@ -60,9 +48,6 @@ returns c =
     let e = sym (umis-in-refused (s .set .now) (s .out .now) _ t) in
     (ap answerOf e, (ap (bufferAfter (s .out .now)) e, (omega arith, numbered _ (consensusUmisIn (s .set .now) (s .out .now)) (ap answerOf e))))
 
-same-length : tie.Need-same-length
-same-length c = search needs
-
 returns-2 : tie.Need-returns-2
 returns-2 c =
     let g = c .before .before .before .before .before .before .before in
@@ -77,13 +62,10 @@ pub consensus-umis-spec : {M : Type 1} → statement M
 consensus-umis-spec =
     tie.close
     (tie.spec
-    read-places-requires
-    enum-known-r
-    enum-known-n
-    default-requires
+    (λ c κs. search needs) (λ c. search needs) (λ c. search needs) (λ c κs. search needs)
     array-share-prefix-places
     slice-aggregate-call-strings
     call-strings-requires
     returns
-    same-length
+    (λ c. search needs)
     returns-2)

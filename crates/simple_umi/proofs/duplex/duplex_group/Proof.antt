@@ -47,39 +47,12 @@ both c text t =
     (a .ensures .1) (g .ensures .1) t (consensusOf (s .args .caller) (strandOf 65 (strings s))) refl (a .ensures .0) (c .before .before .before .before .enum-told2 .given .1) (w .result) (w .ensures)
     (consensusOf (w .result) (strandOf 66 (strings s))) refl (g .ensures .0)
 
-slice-aggregate-strand-group : tie.Need-slice-aggregate-strand-group
-slice-aggregate-strand-group c = search needs
-
-strand-group-requires : tie.Need-strand-group-requires
-strand-group-requires c κs = search needs
-
-enum-told : tie.Need-enum-told
-enum-told c = search needs
-
-enum-told-2 : tie.Need-enum-told-2
-enum-told-2 c = search needs
-
-with-builder-requires : tie.Need-with-builder-requires
-with-builder-requires c κs = search needs
-
-slice-aggregate-strand-group-2 : tie.Need-slice-aggregate-strand-group-2
-slice-aggregate-strand-group-2 c = search needs
-
-strand-group-requires-2 : tie.Need-strand-group-requires-2
-strand-group-requires-2 c κs = search needs
-
-array-share-prefix-other : tie.Need-array-share-prefix-other
-array-share-prefix-other c = search needs
-
 slice-aggregate-put-pair : tie.Need-slice-aggregate-put-pair
 slice-aggregate-put-pair c = let g = c .before .before .before in sym (b-text g)
 
 put-pair-requires : tie.Need-put-pair-requires
 put-pair-requires c κs =
     let g = c .before .before .before .before in (g .strand-group2 .ensures .1, omega (arith, g .strand-group2 .ensures .1, b-text g))
-
-same-length : tie.Need-same-length
-same-length c = search needs
 
 returns : tie.Need-returns
 returns c =
@@ -89,9 +62,6 @@ returns c =
       pair-as (s .args .out .now) (p .result) (p .last .1 .1 .1 .0) _ _ (ap (λ (t : Result FoundDuplex). andThen t (roomForBoth (s .args .out .now))) (both g _ (inl (c .before .before .before .before .before .if1 .taken, refl)))) (p .ensures .0),
       p .ensures .1,
     )
-
-array-share-prefix-text : tie.Need-array-share-prefix-text
-array-share-prefix-text c = search needs
 
 slice-aggregate-put-pair-2 : tie.Need-slice-aggregate-put-pair-2
 slice-aggregate-put-pair-2 c = let g = c .before .before .before .before .before .before .before .before .before .before in sym (a-text g)
@@ -109,9 +79,6 @@ returns-2 c =
       g .ensures .1,
     )
 
-same-length-2 : tie.Need-same-length-2
-same-length-2 c = search needs
-
 returns-3 : tie.Need-returns-3
 returns-3 c =
     let g = c .before .before .before .before .before .before .before in
@@ -125,21 +92,15 @@ pub duplex-group-spec : {M : Type 1} → statement M
 duplex-group-spec =
     tie.close
     (tie.spec
-    slice-aggregate-strand-group
-    strand-group-requires
-    enum-told
-    enum-told-2
-    with-builder-requires
-    slice-aggregate-strand-group-2
-    strand-group-requires-2
-    array-share-prefix-other
+    (λ c. search needs) (λ c κs. search needs) (λ c. search needs) (λ c. search needs)
+    (λ c κs. search needs) (λ c. search needs) (λ c κs. search needs) (λ c. search needs)
     slice-aggregate-put-pair
     put-pair-requires
-    same-length
+    (λ c. search needs)
     returns
-    array-share-prefix-text
+    (λ c. search needs)
     slice-aggregate-put-pair-2
     put-pair-requires-2
     returns-2
-    same-length-2
+    (λ c. search needs)
     returns-3)

@@ -7,21 +7,6 @@ use Rattle.simple_umi.proofs.Strands.{judged-refused, judged-sound, pai
 use Rattle.simple_umi.proofs.duplex.put_pair.Statement.{statement}
 use Rattle.simple_umi.proofs.duplex.put_pair.Tie as tie
 
-enum-told : tie.Need-enum-told
-enum-told c = search needs
-
-enum-told-2 : tie.Need-enum-told-2
-enum-told-2 c = search needs
-
-write-front-requires : tie.Need-write-front-requires
-write-front-requires c κs = search needs
-
-refused-group-requires : tie.Need-refused-group-requires
-refused-group-requires c κs = search needs
-
-same-length : tie.Need-same-length
-same-length c = search needs
-
 returns : tie.Need-returns
 returns c =
     let s = c .before .before .before .before .before .before .before .before .before .before .before .args in
@@ -39,9 +24,6 @@ returns-2 c =
     let d = bothFound (s .a) (s .b) (s .text .now) in
     (pair-refused (s .out .now) _ _ _ (judged-refused (s .b .verdict) d _ (c .enum-told .given .1)) (c .enum-told .given .1), c .before .before .before .before .before .pre .0)
 
-same-length-2 : tie.Need-same-length-2
-same-length-2 c = search needs
-
 returns-3 : tie.Need-returns-3
 returns-3 c =
     let s = c .before .before .before .before .before .before .before .before .before .before .args in
@@ -57,12 +39,9 @@ pub put-pair-spec : {M : Type 1} → statement M
 put-pair-spec =
     tie.close
     (tie.spec
-    enum-told
-    enum-told-2
-    write-front-requires
-    refused-group-requires
-    same-length
+    (λ c. search needs) (λ c. search needs) (λ c κs. search needs) (λ c κs. search needs)
+    (λ c. search needs)
     returns
     returns-2
-    same-length-2
+    (λ c. search needs)
     returns-3)

@@ -5,12 +5,6 @@ use lib.Seq.{length-take-le}
 use Rattle.simple_umi.proofs.duplex.strand_group.Statement.{statement}
 use Rattle.simple_umi.proofs.duplex.strand_group.Tie as tie
 
-slice-aggregate-strand-places : tie.Need-slice-aggregate-strand-places
-slice-aggregate-strand-places c = search needs
-
-strand-places-requires : tie.Need-strand-places-requires
-strand-places-requires c κs = search needs
-
 array-share-prefix-kept : tie.Need-array-share-prefix-kept
 array-share-prefix-kept c = c .before .strand-places .ensures .1 .0
 
@@ -20,9 +14,6 @@ slice-aggregate-consensus-group c =
 
 consensus-group-requires : tie.Need-consensus-group-requires
 consensus-group-requires c κs = c .before .before .before .strand-places .ensures .1 .1
-
-same-length : tie.Need-same-length
-same-length c = search needs
 
 returns : tie.Need-returns
 returns c =
@@ -36,10 +27,9 @@ pub strand-group-spec : {M : Type 1} → statement M
 strand-group-spec =
     tie.close
     (tie.spec
-    slice-aggregate-strand-places
-    strand-places-requires
+    (λ c. search needs) (λ c κs. search needs)
     array-share-prefix-kept
     slice-aggregate-consensus-group
     consensus-group-requires
-    same-length
+    (λ c. search needs)
     returns)

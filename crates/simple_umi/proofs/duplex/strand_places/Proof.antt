@@ -20,35 +20,11 @@ abbrev μ-loop : tie.MeasureT-loop
 loop-holds : tie.Need-loop-holds Inv-loop μ-loop
 loop-holds c = (omega arith, omega arith, refl, refl, λ k h. absurd (not-suc-le-zero h))
 
-mul-ends-in : tie.Need-mul-ends-in Inv-loop μ-loop
-mul-ends-in c = search needs
-
-shared-slice-read-ends-in : tie.Need-shared-slice-read-ends-in Inv-loop μ-loop
-shared-slice-read-ends-in c = search needs
-
 ends-in-requires : tie.Need-ends-in-requires Inv-loop μ-loop
 ends-in-requires c κs = let o = c .before .before in o .before .before .before .before .pre .1 .1 (o .loop .k) (omega arith) .0
 
-mul-kept : tie.Need-mul-kept Inv-loop μ-loop
-mul-kept c = search needs
-
-shared-slice-read-kept : tie.Need-shared-slice-read-kept Inv-loop μ-loop
-shared-slice-read-kept c = search needs
-
 mul-kept-2 : tie.Need-mul-kept-2 Inv-loop μ-loop
 mul-kept-2 c = omega (arith, c .before .before .before .before .before .before .before .before .before .pre .1 .0)
-
-slice-write-kept : tie.Need-slice-write-kept Inv-loop μ-loop
-slice-write-kept c = omega arith
-
-add-n : tie.Need-add-n Inv-loop μ-loop
-add-n c = search needs
-
-add-k : tie.Need-add-k Inv-loop μ-loop
-add-k c = search needs
-
-loop-less : tie.Need-loop-less Inv-loop μ-loop
-loop-less c = omega arith
 
 loop-again : tie.Need-loop-again Inv-loop μ-loop
 loop-again c =
@@ -83,16 +59,11 @@ strand-places-spec =
     Inv-loop
     μ-loop
     loop-holds
-    mul-ends-in
-    shared-slice-read-ends-in
+    (λ c. search needs) (λ c. search needs)
     ends-in-requires
-    mul-kept
-    shared-slice-read-kept
+    (λ c. search needs) (λ c. search needs)
     mul-kept-2
-    slice-write-kept
-    add-n
-    add-k
-    loop-less
+    (λ c. omega arith) (λ c. search needs) (λ c. search needs) (λ c. omega arith)
     loop-again
     same-length
     returns)

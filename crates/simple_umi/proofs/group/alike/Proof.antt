@@ -19,17 +19,8 @@ abbrev μ-loop : tie.MeasureT-loop
 loop-holds : tie.Need-loop-holds Inv-loop μ-loop
 loop-holds c = (omega arith, lengths-first (c .args .set .now) (c .args .places .now))
 
-mul-if1 : tie.Need-mul-if1 Inv-loop μ-loop
-mul-if1 c = search needs
-
-shared-slice-read-if1 : tie.Need-shared-slice-read-if1 Inv-loop μ-loop
-shared-slice-read-if1 c = search needs
-
 shared-slice-read-if1-2 : tie.Need-shared-slice-read-if1-2 Inv-loop μ-loop
 shared-slice-read-if1-2 c = let o = c .before .before .before in omega (arith, o .before .pre .1 (o .loop .k) (omega arith) .0)
-
-shared-slice-read-if1-3 : tie.Need-shared-slice-read-if1-3 Inv-loop μ-loop
-shared-slice-read-if1-3 c = search needs
 
 shared-slice-read-if1-4 : tie.Need-shared-slice-read-if1-4 Inv-loop μ-loop
 shared-slice-read-if1-4 c = omega (arith, c .before .before .before .before .before .before .pre .1 0 (omega arith) .0)
@@ -39,12 +30,6 @@ returns c =
     let o = c .before .before .before .before .before .before in
     let a = o .before .args in
     lengths-failed (a .set .now) (a .places .now) (o .loop .k) (omega arith) (c .if1 .taken) ∙ o .loop .inv .1
-
-add-k : tie.Need-add-k Inv-loop μ-loop
-add-k c = search needs
-
-loop-less : tie.Need-loop-less Inv-loop μ-loop
-loop-less c = search needs
 
 loop-again : tie.Need-loop-again Inv-loop μ-loop
 loop-again c =
@@ -65,13 +50,11 @@ alike-spec =
     Inv-loop
     μ-loop
     loop-holds
-    mul-if1
-    shared-slice-read-if1
+    (λ c. search needs) (λ c. search needs)
     shared-slice-read-if1-2
-    shared-slice-read-if1-3
+    (λ c. search needs)
     shared-slice-read-if1-4
     returns
-    add-k
-    loop-less
+    (λ c. search needs) (λ c. search needs)
     loop-again
     returns-2)

@@ -44,15 +44,9 @@ returns c =
     let e = group-none (a .caller) (a .trim) (a .set .now) (a .places .now) (c .if1 .taken) in
     (gave-text _ out out _ _ e (none-written out) (omega arith) refl refl refl refl, (omega arith, λ h. room-judged out _ Sound _ e (omega arith)))
 
-shared-slice-read-first : tie.Need-shared-slice-read-first
-shared-slice-read-first c = search needs
-
 shared-slice-read-wide : tie.Need-shared-slice-read-wide
 shared-slice-read-wide c =
     let s = c .before .before .before .before .before .before .before in let a = s .args in first-inside (a .trim) (a .set .now) (a .places .now) (s .pre) (some (c .before .before))
-
-wide-requires : tie.Need-wide-requires
-wide-requires c κs = search needs
 
 sub-width : tie.Need-sub-width
 sub-width c = whole c .0
@@ -68,9 +62,6 @@ family-requires c κs =
     let w = c .before .before .before .before .wide in
     let k = c .before .before .before .alike in
     (omega (arith, w .ensures .1), group-fits (a .caller) (a .trim) (a .set .now) (a .places .now) (s .pre) (w .result) (w .ensures .0) (k .result) (k .ensures) (c .before .before .if2 .taken) (c .before .if3 .taken))
-
-same-length : tie.Need-same-length
-same-length c = search needs
 
 returns-2 : tie.Need-returns-2
 returns-2 c =
@@ -94,23 +85,8 @@ add-from c = omega (arith, whole (c .before .before) .1)
 add-end : tie.Need-add-end
 add-end c = omega (arith, whole (c .before .before) .1)
 
-sub-write-front : tie.Need-sub-write-front
-sub-write-front c = search needs
-
-part-write-front-start : tie.Need-part-write-front-start
-part-write-front-start c = search needs
-
 part-write-front-end : tie.Need-part-write-front-end
 part-write-front-end c = omega (arith, whole (c .before .before .before) .1)
-
-write-front-requires : tie.Need-write-front-requires
-write-front-requires c κs = search needs
-
-refused-group-requires : tie.Need-refused-group-requires
-refused-group-requires c κs = search needs
-
-same-length-2 : tie.Need-same-length-2
-same-length-2 c = search needs
 
 returns-3 : tie.Need-returns-3
 returns-3 c =
@@ -131,9 +107,6 @@ returns-3 c =
       gave-short (c .refused-group .result) out (p .last .0) _ _ e lent (leb-false _ _ (sym reply ∙ not-true _ (c .before .if4 .taken))) (c .refused-group .ensures .0),
       (c .refused-group .ensures .1, λ h. room-judged out _ Sound _ e (omega (arith, w .ensures .1))),
     )
-
-same-length-3 : tie.Need-same-length-3
-same-length-3 c = search needs
 
 returns-4 : tie.Need-returns-4
 returns-4 c =
@@ -160,22 +133,19 @@ consensus-group-spec =
     tie.close
     (tie.spec
     returns
-    shared-slice-read-first
+    (λ c. search needs)
     shared-slice-read-wide
-    wide-requires
+    (λ c κs. search needs)
     sub-width
     alike-requires
     family-requires
-    same-length
+    (λ c. search needs)
     returns-2
     add-from
     add-end
-    sub-write-front
-    part-write-front-start
+    (λ c. search needs) (λ c. search needs)
     part-write-front-end
-    write-front-requires
-    refused-group-requires
-    same-length-2
+    (λ c κs. search needs) (λ c κs. search needs) (λ c. search needs)
     returns-3
-    same-length-3
+    (λ c. search needs)
     returns-4)

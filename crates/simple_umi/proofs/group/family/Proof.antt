@@ -9,21 +9,6 @@ use Rattle.simple_umi.proofs.Replies.{family-refused, family-short, fam
 use Rattle.simple_umi.proofs.group.family.Statement.{statement}
 use Rattle.simple_umi.proofs.group.family.Tie as tie
 
-family-verdict-requires : tie.Need-family-verdict-requires
-family-verdict-requires c κs = search needs
-
-enum-known-r : tie.Need-enum-known-r
-enum-known-r c = search needs
-
-refused-group-requires : tie.Need-refused-group-requires
-refused-group-requires c κs = search needs
-
-enum-told : tie.Need-enum-told
-enum-told c = search needs
-
-refused-group-requires-2 : tie.Need-refused-group-requires-2
-refused-group-requires-2 c κs = search needs
-
 returns : tie.Need-returns
 returns c =
     let s = c .before .before .before .before .before .before .before .before .before in
@@ -35,18 +20,9 @@ returns c =
       r .ensures .1,
     )
 
-adjusted-entry-requires : tie.Need-adjusted-entry-requires
-adjusted-entry-requires c κs = search needs
-
-slice-relend-prefix-call-family : tie.Need-slice-relend-prefix-call-family
-slice-relend-prefix-call-family c = search needs
-
 slice-aggregate-call-family : tie.Need-slice-aggregate-call-family
 slice-aggregate-call-family c =
     let a = c .before .before .before .before .before .before .before .before .before .before .before .before .args in sym (length-take-le (a .width) (a .out .now) (omega arith))
-
-call-family-requires : tie.Need-call-family-requires
-call-family-requires c κs = search needs
 
 returns-2 : tie.Need-returns-2
 returns-2 c =
@@ -57,9 +33,6 @@ returns-2 c =
       family-refused (a .caller) (a .width) (a .set .now) (a .places .now) (a .out .now) (s .pre .1) (v .result) (v .ensures .0) _ (c .before .before .r .given .1) (r .result) (r .ensures .0),
       r .ensures .1,
     )
-
-same-length : tie.Need-same-length
-same-length c = search needs
 
 returns-3 : tie.Need-returns-3
 returns-3 c =
@@ -80,16 +53,12 @@ pub family-spec : {M : Type 1} → statement M
 family-spec =
     tie.close
     (tie.spec
-    family-verdict-requires
-    enum-known-r
-    refused-group-requires
-    enum-told
-    refused-group-requires-2
+    (λ c κs. search needs) (λ c. search needs) (λ c κs. search needs) (λ c. search needs)
+    (λ c κs. search needs)
     returns
-    adjusted-entry-requires
-    slice-relend-prefix-call-family
+    (λ c κs. search needs) (λ c. search needs)
     slice-aggregate-call-family
-    call-family-requires
+    (λ c κs. search needs)
     returns-2
-    same-length
+    (λ c. search needs)
     returns-3)

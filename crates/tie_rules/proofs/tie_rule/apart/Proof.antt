@@ -9,11 +9,8 @@ use Rattle.tie_rules.proofs.tie_rule.apart.Tie as tie
 returns : tie.Need-returns
 returns c = rw (eq-eqb _ _ (c .if1 .taken))
 
-ties-with-requires : tie.Need-ties-with-requires
-ties-with-requires c κs = search needs
-
 returns-2 : tie.Need-returns-2
 returns-2 c = rw (ne-eqb _ _ (c .before .if1 .left)) (ap not (c .ties-with .ensures))
 
 pub apart-spec : {M : Type 1} → statement M
-apart-spec = tie.close (tie.spec returns ties-with-requires returns-2)
+apart-spec = tie.close (tie.spec returns (λ c κs. search needs) returns-2)

@@ -20,21 +20,6 @@ loop-holds : tie.Need-loop-holds Inv-loop μ-loop
 unfolding scan
 loop-holds c = (omega arith, refl)
 
-mul-fgbio-step : tie.Need-mul-fgbio-step Inv-loop μ-loop
-mul-fgbio-step c = search needs
-
-array-read-fgbio-step : tie.Need-array-read-fgbio-step Inv-loop μ-loop
-array-read-fgbio-step c = search needs
-
-fgbio-step-requires : tie.Need-fgbio-step-requires Inv-loop μ-loop
-fgbio-step-requires c κs = search needs
-
-add-i : tie.Need-add-i Inv-loop μ-loop
-add-i c = omega arith
-
-loop-less : tie.Need-loop-less Inv-loop μ-loop
-loop-less c = omega arith
-
 loop-again : tie.Need-loop-again Inv-loop μ-loop
 unfolding scan
 loop-again c =
@@ -54,10 +39,7 @@ fgbio-scan-spec =
     Inv-loop
     μ-loop
     loop-holds
-    mul-fgbio-step
-    array-read-fgbio-step
-    fgbio-step-requires
-    add-i
-    loop-less
+    (λ c. search needs) (λ c. search needs) (λ c κs. search needs) (λ c. omega arith)
+    (λ c. omega arith)
     loop-again
     returns)

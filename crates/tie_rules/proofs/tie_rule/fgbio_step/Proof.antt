@@ -4,9 +4,6 @@ use borrow.Author.Needs.{needs}
 use Rattle.tie_rules.proofs.tie_rule.fgbio_step.Statement.{statement}
 use Rattle.tie_rules.proofs.tie_rule.fgbio_step.Tie as tie
 
-is-nan-requires : tie.Need-is-nan-requires
-is-nan-requires c κs = search needs
-
 returns : tie.Need-returns
 unfolding fgbioStep
 returns c = rw (← c .before .is-nan .ensures, c .if1 .taken)
@@ -19,9 +16,6 @@ returns-3 : tie.Need-returns-3
 unfolding fgbioStep
 returns-3 c = rw (← c .before .before .before .before .before .is-nan .ensures, c .before .before .before .before .if1 .left, c .before .before .if2 .left, c .if3 .taken)
 
-fgbio-tie-requires : tie.Need-fgbio-tie-requires
-fgbio-tie-requires c κs = search needs
-
 returns-4 : tie.Need-returns-4
 unfolding fgbioStep
 returns-4 c = rw (← c .before .before .before .before .before .before .before .is-nan .ensures, c .before .before .before .before .before .before .if1 .left, c .before .before .before .before .if2 .left, c .before .before .if3 .left, ← c .before .fgbio-tie .ensures, c .if4 .taken)
@@ -33,4 +27,5 @@ returns-5 c = rw (← c .before .before .before .before .before .before .before 
 pub fgbio-step-spec : {M : Type 1} → statement M
 fgbio-step-spec =
     tie.close
-    (tie.spec is-nan-requires returns returns-2 returns-3 fgbio-tie-requires returns-4 returns-5)
+    (tie.spec
+    (λ c κs. search needs) returns returns-2 returns-3 (λ c κs. search needs) returns-4 returns-5)

@@ -8,12 +8,9 @@ returns : tie.Need-returns
 unfolding fgbioTested
 returns c = rw (c .if1 .taken)
 
-fgbio-tie-requires : tie.Need-fgbio-tie-requires
-fgbio-tie-requires c κs = search needs
-
 returns-2 : tie.Need-returns-2
 unfolding fgbioTested
 returns-2 c = rw (c .before .if1 .left) (c .fgbio-tie .ensures)
 
 pub fgbio-tested-spec : {M : Type 1} → statement M
-fgbio-tested-spec = tie.close (tie.spec returns fgbio-tie-requires returns-2)
+fgbio-tested-spec = tie.close (tie.spec returns (λ c κs. search needs) returns-2)

@@ -4,12 +4,9 @@ use borrow.Author.Needs.{needs}
 use Rattle.tie_rules.proofs.tie_rule.fgbio_tie.Statement.{statement}
 use Rattle.tie_rules.proofs.tie_rule.fgbio_tie.Tie as tie
 
-abs-requires : tie.Need-abs-requires
-abs-requires c κs = search needs
-
 returns : tie.Need-returns
 unfolding fgbioTie
 returns c = rw (c .abs .ensures)
 
 pub fgbio-tie-spec : {M : Type 1} → statement M
-fgbio-tie-spec = tie.close (tie.spec abs-requires returns)
+fgbio-tie-spec = tie.close (tie.spec (λ c κs. search needs) returns)

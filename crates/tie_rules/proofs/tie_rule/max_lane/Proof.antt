@@ -5,18 +5,9 @@ use borrow.Author.Needs.{needs}
 use Rattle.tie_rules.proofs.tie_rule.max_lane.Statement.{statement}
 use Rattle.tie_rules.proofs.tie_rule.max_lane.Tie as tie
 
-ulp-scan-requires : tie.Need-ulp-scan-requires
-ulp-scan-requires c κs = search needs
-
-is-finite-requires : tie.Need-is-finite-requires
-is-finite-requires c κs = search needs
-
 returns : tie.Need-returns
 unfolding uniqueMaxIndex
 returns c = rw (← c .before .before .ulp-scan .ensures, ← c .before .is-finite .ensures, not-true (c .before .is-finite .result) (c .if1 .taken))
-
-none-ties-requires : tie.Need-none-ties-requires
-none-ties-requires c κs = search needs
 
 returns-2 : tie.Need-returns-2
 unfolding uniqueMaxIndex
@@ -29,4 +20,6 @@ returns-3 c = rw (← c .before .before .before .before .ulp-scan .ensures, ← 
 pub max-lane-spec : {M : Type 1} → statement M
 max-lane-spec =
     tie.close
-    (tie.spec ulp-scan-requires is-finite-requires returns none-ties-requires returns-2 returns-3)
+    (tie.spec
+    (λ c κs. search needs) (λ c κs. search needs) returns (λ c κs. search needs) returns-2
+    returns-3)

@@ -5,18 +5,6 @@ use borrow.Author.Needs.{needs}
 use Rattle.tie_rules.proofs.tie_rule.max_lane_with.Statement.{statement}
 use Rattle.tie_rules.proofs.tie_rule.max_lane_with.Tie as tie
 
-enum-told : tie.Need-enum-told
-enum-told c = search needs
-
-max-lane-requires : tie.Need-max-lane-requires
-max-lane-requires c κs = search needs
-
-enum-told-2 : tie.Need-enum-told-2
-enum-told-2 c = search needs
-
-fgbio-lead-requires : tie.Need-fgbio-lead-requires
-fgbio-lead-requires c κs = search needs
-
 returns : tie.Need-returns
 unfolding uniqueMaxIndexWith
 returns c = c .max-lane .ensures ∙ sym (ap (uniqueMaxIndexWith _) (c .before .enum-told .given .1))
@@ -29,9 +17,6 @@ pub max-lane-with-spec : {M : Type 1} → statement M
 max-lane-with-spec =
     tie.close
     (tie.spec
-    enum-told
-    max-lane-requires
-    enum-told-2
-    fgbio-lead-requires
+    (λ c. search needs) (λ c κs. search needs) (λ c. search needs) (λ c κs. search needs)
     returns
     returns-2)

@@ -34,12 +34,9 @@ returns-2 : tie.Need-returns-2
 unfolding nearPatterns
 returns-2 c = let a = c .before .before .args .a in let b = c .before .before .args .b in rw (not-false (signs a b) (c .before .if1 .left), le-leb a (b + 4) (omega arith)) (within a b (c .if2 .taken))
 
-sub-result : tie.Need-sub-result
-sub-result c = search needs
-
 returns-3 : tie.Need-returns-3
 unfolding nearPatterns
 returns-3 c = let a = c .before .before .args .a in let b = c .before .before .args .b in rw (not-false (signs a b) (c .before .if1 .left), le-leb b (a + 4) (omega arith)) (within b a (omega arith) ∙ sym (and-true (leb a (b + 4))))
 
 pub near-patterns-spec : {M : Type 1} → statement M
-near-patterns-spec = tie.close (tie.spec returns returns-2 sub-result returns-3)
+near-patterns-spec = tie.close (tie.spec returns returns-2 (λ c. search needs) returns-3)

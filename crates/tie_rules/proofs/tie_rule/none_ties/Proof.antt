@@ -23,24 +23,9 @@ loop-holds : tie.Need-loop-holds Inv-loop μ-loop
 unfolding allBelow
 loop-holds c = (omega arith, refl)
 
-mul-apart : tie.Need-mul-apart Inv-loop μ-loop
-mul-apart c = search needs
-
-array-read-apart : tie.Need-array-read-apart Inv-loop μ-loop
-array-read-apart c = search needs
-
-apart-requires : tie.Need-apart-requires Inv-loop μ-loop
-apart-requires c κs = search needs
-
 returns : tie.Need-returns Inv-loop μ-loop
 unfolding untied
 returns c = sym (below-stop 4 _ (c .before .before .before .loop .j) (c .before .before .loop-test .taken) (sym (c .before .apart .ensures) ∙ not-true (c .before .apart .result) (c .if1 .taken)))
-
-add-j : tie.Need-add-j Inv-loop μ-loop
-add-j c = omega arith
-
-loop-less : tie.Need-loop-less Inv-loop μ-loop
-loop-less c = omega arith
 
 loop-again : tie.Need-loop-again Inv-loop μ-loop
 loop-again c = (omega arith, below-on _ _ (c .before .before .before .loop .inv .1) (sym (c .before .apart .ensures) ∙ not-false (c .before .apart .result) (c .if1 .left)))
@@ -56,11 +41,8 @@ none-ties-spec =
     Inv-loop
     μ-loop
     loop-holds
-    mul-apart
-    array-read-apart
-    apart-requires
+    (λ c. search needs) (λ c. search needs) (λ c κs. search needs)
     returns
-    add-j
-    loop-less
+    (λ c. omega arith) (λ c. omega arith)
     loop-again
     returns-2)

@@ -20,21 +20,6 @@ loop-holds : tie.Need-loop-holds Inv-loop μ-loop
 unfolding scan
 loop-holds c = (omega arith, refl)
 
-mul-ulp-step : tie.Need-mul-ulp-step Inv-loop μ-loop
-mul-ulp-step c = search needs
-
-array-read-ulp-step : tie.Need-array-read-ulp-step Inv-loop μ-loop
-array-read-ulp-step c = search needs
-
-ulp-step-requires : tie.Need-ulp-step-requires Inv-loop μ-loop
-ulp-step-requires c κs = search needs
-
-add-i : tie.Need-add-i Inv-loop μ-loop
-add-i c = omega arith
-
-loop-less : tie.Need-loop-less Inv-loop μ-loop
-loop-less c = omega arith
-
 loop-again : tie.Need-loop-again Inv-loop μ-loop
 unfolding scan
 loop-again c =
@@ -54,10 +39,7 @@ ulp-scan-spec =
     Inv-loop
     μ-loop
     loop-holds
-    mul-ulp-step
-    array-read-ulp-step
-    ulp-step-requires
-    add-i
-    loop-less
+    (λ c. search needs) (λ c. search needs) (λ c κs. search needs) (λ c. omega arith)
+    (λ c. omega arith)
     loop-again
     returns)

@@ -8,15 +8,9 @@ returns : tie.Need-returns
 unfolding ulpTie
 returns c = rw (c .if1 .taken)
 
-is-nan-requires : tie.Need-is-nan-requires
-is-nan-requires c κs = search needs
-
 returns-2 : tie.Need-returns-2
 unfolding ulpTie
 returns-2 c = rw (c .before .before .if1 .left, ← c .before .is-nan .ensures, c .if2 .taken)
-
-is-nan-requires-2 : tie.Need-is-nan-requires-2
-is-nan-requires-2 c κs = search needs
 
 returns-3 : tie.Need-returns-3
 unfolding ulpTie
@@ -28,9 +22,6 @@ float-to-bits-near-patterns c = rw (← c .before .before .before .is-nan .ensur
 float-to-bits-near-patterns-2 : tie.Need-float-to-bits-near-patterns-2
 float-to-bits-near-patterns-2 c = rw (← c .before .is-nan2 .ensures, c .if3 .left) tt
 
-near-patterns-requires : tie.Need-near-patterns-requires
-near-patterns-requires c κs = search needs
-
 returns-4 : tie.Need-returns-4
 unfolding ulpTie
 returns-4 c = rw (c .before .before .before .before .before .if1 .left, ← c .before .before .before .before .is-nan .ensures, c .before .before .before .if2 .left, ← c .before .before .is-nan2 .ensures, c .before .if3 .left) (c .near-patterns .ensures)
@@ -40,11 +31,11 @@ ulp-tie-spec =
     tie.close
     (tie.spec
     returns
-    is-nan-requires
+    (λ c κs. search needs)
     returns-2
-    is-nan-requires-2
+    (λ c κs. search needs)
     returns-3
     float-to-bits-near-patterns
     float-to-bits-near-patterns-2
-    near-patterns-requires
+    (λ c κs. search needs)
     returns-4)

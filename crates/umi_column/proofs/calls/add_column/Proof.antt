@@ -19,18 +19,6 @@ abbrev μ-loop : tie.MeasureT-loop
 loop-holds : tie.Need-loop-holds Inv-loop μ-loop
 loop-holds c = (omega arith, refl)
 
-shared-slice-read-add-entry : tie.Need-shared-slice-read-add-entry Inv-loop μ-loop
-shared-slice-read-add-entry c = omega arith
-
-add-entry-requires : tie.Need-add-entry-requires Inv-loop μ-loop
-add-entry-requires c κs = search needs
-
-add-i : tie.Need-add-i Inv-loop μ-loop
-add-i c = omega arith
-
-loop-less : tie.Need-loop-less Inv-loop μ-loop
-loop-less c = omega arith
-
 loop-again : tie.Need-loop-again Inv-loop μ-loop
 loop-again c =
     let l = c .before .before .before .before .loop in
@@ -52,9 +40,6 @@ add-column-spec =
     Inv-loop
     μ-loop
     loop-holds
-    shared-slice-read-add-entry
-    add-entry-requires
-    add-i
-    loop-less
+    (λ c. omega arith) (λ c κs. search needs) (λ c. omega arith) (λ c. omega arith)
     loop-again
     returns)

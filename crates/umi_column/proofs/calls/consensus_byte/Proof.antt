@@ -5,12 +5,9 @@ use Rattle.umi_column.specs.Sums.{byteBy}
 use Rattle.umi_column.proofs.calls.consensus_byte.Statement.{statement}
 use Rattle.umi_column.proofs.calls.consensus_byte.Tie as tie
 
-named-requires : tie.Need-named-requires
-named-requires c κs = search needs
-
 returns : tie.Need-returns
 unfolding namedByte byteBy
 returns c = c .named .ensures
 
 pub consensus-byte-spec : {M : Type 1} → statement M
-consensus-byte-spec = tie.close (tie.spec named-requires returns)
+consensus-byte-spec = tie.close (tie.spec (λ c κs. search needs) returns)

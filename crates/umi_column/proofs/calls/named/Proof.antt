@@ -6,15 +6,6 @@ use Rattle.umi_column.specs.Sums.{byteBy}
 use Rattle.umi_column.proofs.calls.named.Statement.{statement}
 use Rattle.umi_column.proofs.calls.named.Tie as tie
 
-is-dna-base-requires : tie.Need-is-dna-base-requires
-is-dna-base-requires c κs = search needs
-
-max-lane-with-requires : tie.Need-max-lane-with-requires
-max-lane-with-requires c κs = search needs
-
-base-of-requires : tie.Need-base-of-requires
-base-of-requires c κs = search needs
-
 returns : tie.Need-returns
 unfolding byteBy
 returns c =
@@ -29,8 +20,6 @@ pub named-spec : {M : Type 1} → statement M
 named-spec =
     tie.close
     (tie.spec
-    is-dna-base-requires
-    max-lane-with-requires
-    base-of-requires
+    (λ c κs. search needs) (λ c κs. search needs) (λ c κs. search needs)
     returns
     returns-2)

@@ -30,12 +30,6 @@ start : (x : ℕ) → x < 256 → laneOfByte x < noLane → startOf x ≡ 3 - la
 unfolding startsAt
 start x h k = eqb→eq (startOf x) (3 - laneOfByte x) (rw (lt-leb noLane (laneOfByte x) k) at (below startsAt 256 starts x h))
 
-wide-requires : tie.Need-wide-requires
-wide-requires c κs = search needs
-
-sub-result : tie.Need-sub-result
-sub-result c = search needs
-
 returns : tie.Need-returns
 returns c =
     let x = c .before .before .args .base in
@@ -51,4 +45,7 @@ returns-2 c =
     (λ h. rw e (rw (le-ltb (x / 2 % 4) 2 (rw e at f)) at (start x (omega arith) h)), omega arith)
 
 pub window-start-spec : {M : Type 1} → statement M
-window-start-spec = tie.close (tie.spec wide-requires sub-result returns returns-2)
+window-start-spec =
+    tie.close
+    (tie.spec
+    (λ c κs. search needs) (λ c. search needs) returns returns-2)

@@ -19,23 +19,11 @@ abbrev μ-loop : tie.MeasureT-loop
 loop-holds : tie.Need-loop-holds Inv-loop μ-loop
 loop-holds c = (omega arith, refl)
 
-shared-slice-read-is-dna-base : tie.Need-shared-slice-read-is-dna-base Inv-loop μ-loop
-shared-slice-read-is-dna-base c = omega arith
-
-is-dna-base-requires : tie.Need-is-dna-base-requires Inv-loop μ-loop
-is-dna-base-requires c κs = search needs
-
 returns : tie.Need-returns Inv-loop μ-loop
 returns c =
     let l = c .before .before .before .before .loop in
     let column = c .before .before .before .before .before .before .args .column .now in
     any-found isDnaBase column 0 (l .i) (omega arith) (sym (c .before .is-dna-base .ensures) ∙ c .if1 .taken) ∙ l .inv .1
-
-add-i : tie.Need-add-i Inv-loop μ-loop
-add-i c = omega arith
-
-loop-less : tie.Need-loop-less Inv-loop μ-loop
-loop-less c = omega arith
 
 loop-again : tie.Need-loop-again Inv-loop μ-loop
 loop-again c =
@@ -56,10 +44,8 @@ any-dna-spec =
     Inv-loop
     μ-loop
     loop-holds
-    shared-slice-read-is-dna-base
-    is-dna-base-requires
+    (λ c. omega arith) (λ c κs. search needs)
     returns
-    add-i
-    loop-less
+    (λ c. omega arith) (λ c. omega arith)
     loop-again
     returns-2)

@@ -36,24 +36,12 @@ abbrev μ-loop : tie.MeasureT-loop
 loop-holds : tie.Need-loop-holds Inv-loop μ-loop
 loop-holds c = (omega arith, refl)
 
-shared-slice-read-b : tie.Need-shared-slice-read-b Inv-loop μ-loop
-shared-slice-read-b c = omega arith
-
-is-dna-base-requires : tie.Need-is-dna-base-requires Inv-loop μ-loop
-is-dna-base-requires c κs = search needs
-
 returns : tie.Need-returns Inv-loop μ-loop
 returns c =
     let l = c .before .before .before .before .before .loop in
     let a = c .before .before .before .before .before .before .before .args in
     any-found (isUnlike (a .first)) (a .column .now) 0 (l .i) (omega arith)
     (unlike (a .first) _ (c .before .before .if1 .taken) (sym (c .before .is-dna-base .ensures) ∙ not-true _ (c .if2 .taken))) ∙ l .inv .1
-
-add-i : tie.Need-add-i Inv-loop μ-loop
-add-i c = omega arith
-
-loop-less : tie.Need-loop-less Inv-loop μ-loop
-loop-less c = omega arith
 
 loop-again : tie.Need-loop-again Inv-loop μ-loop
 loop-again c =
@@ -80,10 +68,8 @@ any-unlike-spec =
     Inv-loop
     μ-loop
     loop-holds
-    shared-slice-read-b
-    is-dna-base-requires
+    (λ c. omega arith) (λ c κs. search needs)
     returns
-    add-i
-    loop-less
+    (λ c. omega arith) (λ c. omega arith)
     loop-again
     returns-2)

@@ -9,25 +9,13 @@ use Rattle.umi_column.proofs.verdicts.column_verdict.Tie as tie
 returns : tie.Need-returns
 returns c = verdict-said _ _ (sym (none-sound _ (c .if1 .taken)))
 
-shared-slice-read-first : tie.Need-shared-slice-read-first
-shared-slice-read-first c = search needs
-
-any-unlike-requires : tie.Need-any-unlike-requires
-any-unlike-requires c κs = search needs
-
 returns-2 : tie.Need-returns-2
 returns-2 c = verdict-said _ _ (sym (unlike-refused _ (sym (c .before .any-unlike .ensures) ∙ c .if2 .taken)))
-
-is-dna-base-requires : tie.Need-is-dna-base-requires
-is-dna-base-requires c κs = search needs
 
 returns-3 : tie.Need-returns-3
 returns-3 c =
     let b = c .before .before in
     verdict-said _ _ (sym (first-dna-sound _ (sym (b .before .any-unlike .ensures) ∙ b .if2 .left) (sym (c .before .is-dna-base .ensures) ∙ c .if3 .taken)))
-
-any-dna-requires : tie.Need-any-dna-requires
-any-dna-requires c κs = search needs
 
 returns-4 : tie.Need-returns-4
 returns-4 c =
@@ -47,11 +35,10 @@ column-verdict-spec =
     tie.close
     (tie.spec
     returns
-    shared-slice-read-first
-    any-unlike-requires
+    (λ c. search needs) (λ c κs. search needs)
     returns-2
-    is-dna-base-requires
+    (λ c κs. search needs)
     returns-3
-    any-dna-requires
+    (λ c κs. search needs)
     returns-4
     returns-5)

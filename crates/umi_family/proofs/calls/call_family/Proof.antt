@@ -17,9 +17,6 @@ within c =
     let e : fitting (length (a .text .now)) (a .set .now) (a .places .now) ≡ true = sym (c .before .fit .ensures) ∙ not-false _ (c .if1 .left) in
     (e, fits (length (a .text .now)) (a .set .now) (a .places .now) e)
 
-fit-requires : tie.Need-fit-requires
-fit-requires c κs = search needs
-
 returns : tie.Need-returns
 unfolding calledAt textAt
 returns c =
@@ -36,9 +33,6 @@ any-differs-requires c κs =
     let size : length (p .last .1 .1 .1 .1 .0) ≡ length (a .text .now) = p .kept .1 .1 .1 .1 .0 in
     rw size (within (c .before .before .before .before .before) .1)
 
-same-length : tie.Need-same-length
-same-length c = search needs
-
 returns-2 : tie.Need-returns-2
 unfolding calledAt textAt
 returns-2 c =
@@ -53,9 +47,9 @@ pub call-family-spec : {M : Type 1} → statement M
 call-family-spec =
     tie.close
     (tie.spec
-    fit-requires
+    (λ c κs. search needs)
     returns
     call-columns-requires
     any-differs-requires
-    same-length
+    (λ c. search needs)
     returns-2)

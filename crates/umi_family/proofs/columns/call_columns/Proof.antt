@@ -15,12 +15,6 @@ returns : tie.Need-returns
 returns c =
     let a = c .before .before .before .before .args in no-columns (a .entry) (a .builder) (a .set .now) (a .places .now) (a .text .now) (c .if1 .taken)
 
-sub-last : tie.Need-sub-last
-sub-last c = search needs
-
-call-others-requires : tie.Need-call-others-requires
-call-others-requires c κs = search needs
-
 gather-requires : tie.Need-gather-requires
 gather-requires c κs =
     let s = c .before .before .before .before .before .before .before .before in
@@ -28,30 +22,9 @@ gather-requires c κs =
     let w = length (a .text .now) in
     fits-less (w - 1 + 1) w (a .set .now) (a .places .now) (omega arith) (s .pre)
 
-reset-requires : tie.Need-reset-requires
-reset-requires c κs = search needs
-
-array-share-prefix-column : tie.Need-array-share-prefix-column
-array-share-prefix-column c = search needs
-
 slice-aggregate-add-column : tie.Need-slice-aggregate-add-column
 slice-aggregate-add-column c =
     let a = c .before .before .before .before .before .before .before .before .before .before .before .args in gathered-count (a .set .now) (a .places .now) _ _ (c .before .before .gather .ensures)
-
-add-column-requires : tie.Need-add-column-requires
-add-column-requires c κs = search needs
-
-array-read-consensus-byte : tie.Need-array-read-consensus-byte
-array-read-consensus-byte c = search needs
-
-consensus-byte-requires : tie.Need-consensus-byte-requires
-consensus-byte-requires c κs = search needs
-
-slice-write-text : tie.Need-slice-write-text
-slice-write-text c = search needs
-
-same-length : tie.Need-same-length
-same-length c = search needs
 
 returns-2 : tie.Need-returns-2
 returns-2 c =
@@ -73,15 +46,10 @@ call-columns-spec =
     tie.close
     (tie.spec
     returns
-    sub-last
-    call-others-requires
+    (λ c. search needs) (λ c κs. search needs)
     gather-requires
-    reset-requires
-    array-share-prefix-column
+    (λ c κs. search needs) (λ c. search needs)
     slice-aggregate-add-column
-    add-column-requires
-    array-read-consensus-byte
-    consensus-byte-requires
-    slice-write-text
-    same-length
+    (λ c κs. search needs) (λ c. search needs) (λ c κs. search needs) (λ c. search needs)
+    (λ c. search needs)
     returns-2)

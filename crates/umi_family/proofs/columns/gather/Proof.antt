@@ -21,12 +21,6 @@ abbrev μ-loop : tie.MeasureT-loop
 loop-holds : tie.Need-loop-holds Inv-loop μ-loop
 loop-holds c = (refl, omega arith, refl)
 
-mul-column : tie.Need-mul-column Inv-loop μ-loop
-mul-column c = search needs
-
-shared-slice-read-column : tie.Need-shared-slice-read-column Inv-loop μ-loop
-shared-slice-read-column c = search needs
-
 add-column : tie.Need-add-column Inv-loop μ-loop
 add-column c = let o = c .before .before in omega (arith, o .before .pre .2 (o .loop .k) (omega arith))
 
@@ -35,15 +29,6 @@ add-column-2 c = let o = c .before .before in omega (arith, o .before .pre .2 (o
 
 shared-slice-read-column-2 : tie.Need-shared-slice-read-column-2 Inv-loop μ-loop
 shared-slice-read-column-2 c = let o = c .before .before .before in omega (arith, o .before .pre .2 (o .loop .k) (omega arith))
-
-array-write-column : tie.Need-array-write-column Inv-loop μ-loop
-array-write-column c = search needs
-
-add-k : tie.Need-add-k Inv-loop μ-loop
-add-k c = search needs
-
-loop-less : tie.Need-loop-less Inv-loop μ-loop
-loop-less c = search needs
 
 loop-again : tie.Need-loop-again Inv-loop μ-loop
 loop-again c =
@@ -70,13 +55,10 @@ gather-spec =
     Inv-loop
     μ-loop
     loop-holds
-    mul-column
-    shared-slice-read-column
+    (λ c. search needs) (λ c. search needs)
     add-column
     add-column-2
     shared-slice-read-column-2
-    array-write-column
-    add-k
-    loop-less
+    (λ c. search needs) (λ c. search needs) (λ c. search needs)
     loop-again
     returns)

@@ -22,29 +22,11 @@ loop-holds c =
     let r = a .row .now in
     (omega arith, passed-none 0 r (a .a .now), passed-none 1 r (a .c .now), passed-none 2 r (a .g .now), passed-none 3 r (a .t .now))
 
-shared-slice-read-b : tie.Need-shared-slice-read-b Inv-loop μ-loop
-shared-slice-read-b c = search needs
-
-element-copy-out-a : tie.Need-element-copy-out-a Inv-loop μ-loop
-element-copy-out-a c = search needs
-
-hit-requires : tie.Need-hit-requires Inv-loop μ-loop
-hit-requires c κs = search needs
-
 add-a : tie.Need-add-a Inv-loop μ-loop
 add-a c =
     let o = c .before .before .before .before in
     let s = o .before .before in
     record { fits = passed-room 0 (s .args .row .now) (s .args .a .now) (o .loop .i) (o .loop .a) (o .loop .inv .1) (omega arith) (s .pre .1) (c .hit .result) (c .hit .ensures .1) }
-
-element-write-a : tie.Need-element-write-a Inv-loop μ-loop
-element-write-a c = search needs
-
-element-copy-out-c : tie.Need-element-copy-out-c Inv-loop μ-loop
-element-copy-out-c c = search needs
-
-hit-requires-2 : tie.Need-hit-requires-2 Inv-loop μ-loop
-hit-requires-2 c κs = search needs
 
 add-c : tie.Need-add-c Inv-loop μ-loop
 add-c c =
@@ -52,44 +34,17 @@ add-c c =
     let s = o .before .before in
     record { fits = passed-room 1 (s .args .row .now) (s .args .c .now) (o .loop .i) (o .loop .c) (o .loop .inv .2) (omega arith) (s .pre .2) (c .hit2 .result) (c .hit2 .ensures .1) }
 
-element-write-c : tie.Need-element-write-c Inv-loop μ-loop
-element-write-c c = search needs
-
-element-copy-out-g : tie.Need-element-copy-out-g Inv-loop μ-loop
-element-copy-out-g c = search needs
-
-hit-requires-3 : tie.Need-hit-requires-3 Inv-loop μ-loop
-hit-requires-3 c κs = search needs
-
 add-g : tie.Need-add-g Inv-loop μ-loop
 add-g c =
     let o = c .before .before .before .before .before .before .before .before in
     let s = o .before .before in
     record { fits = passed-room 2 (s .args .row .now) (s .args .g .now) (o .loop .i) (o .loop .g) (o .loop .inv .3) (omega arith) (s .pre .3) (c .hit3 .result) (c .hit3 .ensures .1) }
 
-element-write-g : tie.Need-element-write-g Inv-loop μ-loop
-element-write-g c = search needs
-
-element-copy-out-t : tie.Need-element-copy-out-t Inv-loop μ-loop
-element-copy-out-t c = search needs
-
-hit-requires-4 : tie.Need-hit-requires-4 Inv-loop μ-loop
-hit-requires-4 c κs = search needs
-
 add-t : tie.Need-add-t Inv-loop μ-loop
 add-t c =
     let o = c .before .before .before .before .before .before .before .before .before .before in
     let s = o .before .before in
     record { fits = passed-room 3 (s .args .row .now) (s .args .t .now) (o .loop .i) (o .loop .t) (o .loop .inv .4) (omega arith) (s .pre .4) (c .hit4 .result) (c .hit4 .ensures .1) }
-
-element-write-t : tie.Need-element-write-t Inv-loop μ-loop
-element-write-t c = search needs
-
-add-i : tie.Need-add-i Inv-loop μ-loop
-add-i c = search needs
-
-loop-less : tie.Need-loop-less Inv-loop μ-loop
-loop-less c = search needs
 
 loop-again : tie.Need-loop-again Inv-loop μ-loop
 loop-again c =
@@ -127,24 +82,14 @@ count-row-spec =
     Inv-loop
     μ-loop
     loop-holds
-    shared-slice-read-b
-    element-copy-out-a
-    hit-requires
+    (λ c. search needs) (λ c. search needs) (λ c κs. search needs)
     add-a
-    element-write-a
-    element-copy-out-c
-    hit-requires-2
+    (λ c. search needs) (λ c. search needs) (λ c κs. search needs)
     add-c
-    element-write-c
-    element-copy-out-g
-    hit-requires-3
+    (λ c. search needs) (λ c. search needs) (λ c κs. search needs)
     add-g
-    element-write-g
-    element-copy-out-t
-    hit-requires-4
+    (λ c. search needs) (λ c. search needs) (λ c κs. search needs)
     add-t
-    element-write-t
-    add-i
-    loop-less
+    (λ c. search needs) (λ c. search needs) (λ c. search needs)
     loop-again
     returns)

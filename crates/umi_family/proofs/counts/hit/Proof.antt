@@ -14,11 +14,8 @@ number : (b : Bool) → (boolByte b ≡ (if b then 1 else 0)) × (boolByte b ≤
 number true = (refl, omega arith)
 number false = (refl, omega arith)
 
-cast-result : tie.Need-cast-result
-cast-result c = search needs
-
 returns : tie.Need-returns
 returns c = number (eqb (c .args .byte) (c .args .upper) || eqb (c .args .byte) (c .args .lower))
 
 pub hit-spec : {M : Type 1} → statement M
-hit-spec = tie.close (tie.spec cast-result returns)
+hit-spec = tie.close (tie.spec (λ c. search needs) returns)

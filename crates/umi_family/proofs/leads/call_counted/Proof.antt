@@ -24,23 +24,11 @@ loop-holds c =
     let w = length (o .args .text .now) in
     (omega arith, done-none 0 w s ps (o .pre .2), done-none 1 w s ps (o .pre .2), done-none 2 w s ps (o .pre .2), done-none 3 w s ps (o .pre .2))
 
-mul-from : tie.Need-mul-from Inv-loop μ-loop
-mul-from c = search needs
-
-shared-slice-read-from : tie.Need-shared-slice-read-from Inv-loop μ-loop
-shared-slice-read-from c = search needs
-
 add-from : tie.Need-add-from Inv-loop μ-loop
 add-from c = let o = c .before .before in omega (arith, o .before .before .before .before .pre .1 .2 (o .loop .k) (omega arith))
 
 add-end : tie.Need-add-end Inv-loop μ-loop
 add-end c = let o = c .before .before in omega (arith, o .before .before .before .before .pre .1 .2 (o .loop .k) (omega arith))
-
-sub-count-row : tie.Need-sub-count-row Inv-loop μ-loop
-sub-count-row c = search needs
-
-part-count-row-start : tie.Need-part-count-row-start Inv-loop μ-loop
-part-count-row-start c = search needs
 
 part-count-row-end : tie.Need-part-count-row-end Inv-loop μ-loop
 part-count-row-end c = let o = c .before .before in omega (arith, o .before .before .before .before .pre .1 .2 (o .loop .k) (omega arith))
@@ -58,12 +46,6 @@ count-row-requires c κs =
     let few : k < 255 = omega (arith, e .pre .1 .1) in
     let size = row-size s (byteAt ps k + 1) w (e .pre .1 .2 k (omega arith)) in
     rw size (m, done-room 0 w s ps k (o .loop .a) (l .1) m few, done-room 1 w s ps k (o .loop .c) (l .2) m few, done-room 2 w s ps k (o .loop .g) (l .3) m few, done-room 3 w s ps k (o .loop .t) (l .4) m few)
-
-add-k : tie.Need-add-k Inv-loop μ-loop
-add-k c = search needs
-
-loop-less : tie.Need-loop-less Inv-loop μ-loop
-loop-less c = search needs
 
 loop-again : tie.Need-loop-again Inv-loop μ-loop
 loop-again c =
@@ -106,9 +88,6 @@ call-leads-requires c κs =
       done-all 3 w s ps k (o .loop .t) (l .4) n,
     )
 
-same-length : tie.Need-same-length Inv-loop μ-loop
-same-length c = search needs
-
 returns : tie.Need-returns Inv-loop μ-loop
 returns c = c .before .before .call-leads .ensures
 
@@ -119,17 +98,14 @@ call-counted-spec =
     Inv-loop
     μ-loop
     loop-holds
-    mul-from
-    shared-slice-read-from
+    (λ c. search needs) (λ c. search needs)
     add-from
     add-end
-    sub-count-row
-    part-count-row-start
+    (λ c. search needs) (λ c. search needs)
     part-count-row-end
     count-row-requires
-    add-k
-    loop-less
+    (λ c. search needs) (λ c. search needs)
     loop-again
     call-leads-requires
-    same-length
+    (λ c. search needs)
     returns)

@@ -24,24 +24,6 @@ abbrev μ-loop : tie.MeasureT-loop
 loop-holds : tie.Need-loop-holds Inv-loop μ-loop
 loop-holds c = (refl, omega arith, refl)
 
-add-loop : tie.Need-add-loop Inv-loop μ-loop
-add-loop c = search needs
-
-element-copy-out-leader : tie.Need-element-copy-out-leader Inv-loop μ-loop
-element-copy-out-leader c = search needs
-
-element-copy-out-leader-2 : tie.Need-element-copy-out-leader-2 Inv-loop μ-loop
-element-copy-out-leader-2 c = search needs
-
-element-copy-out-leader-3 : tie.Need-element-copy-out-leader-3 Inv-loop μ-loop
-element-copy-out-leader-3 c = search needs
-
-element-copy-out-leader-4 : tie.Need-element-copy-out-leader-4 Inv-loop μ-loop
-element-copy-out-leader-4 c = search needs
-
-leader-requires : tie.Need-leader-requires Inv-loop μ-loop
-leader-requires c κs = search needs
-
 led-byte-requires : tie.Need-led-byte-requires Inv-loop μ-loop
 led-byte-requires c κs =
     let o = c .before .before .before .before .before .before in
@@ -56,15 +38,6 @@ led-byte-requires c κs =
       fits-less (at + 1) w (a .set .now) (a .places .now) (omega arith) (p .1),
       λ h. p .0 column (rw size (p .1 .1)) (c .leader .result) h (leads column _ _ _ _ (p .3 at l) (p .4 at l) (p .5 at l) (p .6 at l) (c .leader .result) h (c .leader .ensures h)),
     )
-
-slice-write-text : tie.Need-slice-write-text Inv-loop μ-loop
-slice-write-text c = omega arith
-
-add-at : tie.Need-add-at Inv-loop μ-loop
-add-at c = search needs
-
-loop-less : tie.Need-loop-less Inv-loop μ-loop
-loop-less c = search needs
 
 loop-again : tie.Need-loop-again Inv-loop μ-loop
 loop-again c =
@@ -91,16 +64,10 @@ call-leads-spec =
     Inv-loop
     μ-loop
     loop-holds
-    add-loop
-    element-copy-out-leader
-    element-copy-out-leader-2
-    element-copy-out-leader-3
-    element-copy-out-leader-4
-    leader-requires
+    (λ c. search needs) (λ c. search needs) (λ c. search needs) (λ c. search needs)
+    (λ c. search needs) (λ c κs. search needs)
     led-byte-requires
-    slice-write-text
-    add-at
-    loop-less
+    (λ c. omega arith) (λ c. search needs) (λ c. search needs)
     loop-again
     same-length
     returns)

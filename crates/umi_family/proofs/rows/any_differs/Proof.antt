@@ -22,12 +22,6 @@ abbrev μ-loop : tie.MeasureT-loop
 loop-holds : tie.Need-loop-holds Inv-loop μ-loop
 loop-holds c = (omega arith, refl)
 
-mul-from : tie.Need-mul-from Inv-loop μ-loop
-mul-from c = search needs
-
-shared-slice-read-from : tie.Need-shared-slice-read-from Inv-loop μ-loop
-shared-slice-read-from c = search needs
-
 add-from : tie.Need-add-from Inv-loop μ-loop
 add-from c =
     let o = c .before .before in omega (arith, o .before .before .before .before .pre .2 (o .loop .k) (omega arith))
@@ -36,18 +30,9 @@ add-end : tie.Need-add-end Inv-loop μ-loop
 add-end c =
     let o = c .before .before in omega (arith, o .before .before .before .before .pre .2 (o .loop .k) (omega arith))
 
-sub-same-bytes : tie.Need-sub-same-bytes Inv-loop μ-loop
-sub-same-bytes c = search needs
-
-part-same-bytes-start : tie.Need-part-same-bytes-start Inv-loop μ-loop
-part-same-bytes-start c = search needs
-
 part-same-bytes-end : tie.Need-part-same-bytes-end Inv-loop μ-loop
 part-same-bytes-end c =
     let o = c .before .before in omega (arith, o .before .before .before .before .pre .2 (o .loop .k) (omega arith))
-
-same-bytes-requires : tie.Need-same-bytes-requires Inv-loop μ-loop
-same-bytes-requires c κs = search needs
 
 returns : tie.Need-returns Inv-loop μ-loop
 returns c =
@@ -57,12 +42,6 @@ returns c =
     let from = byteAt (a .places .now) (o .loop .k) + 1 in
     let said = row-told (λ r. not (sameBytes r t)) (a .set .now) from (length t) _ _ (ap not (c .before .same-bytes .ensures)) (c .if1 .taken) in
     given-found _ (a .places .now) _ (o .loop .k) (omega arith) said ∙ o .loop .inv .1
-
-add-k : tie.Need-add-k Inv-loop μ-loop
-add-k c = search needs
-
-loop-less : tie.Need-loop-less Inv-loop μ-loop
-loop-less c = search needs
 
 loop-again : tie.Need-loop-again Inv-loop μ-loop
 loop-again c =
@@ -85,16 +64,13 @@ any-differs-spec =
     Inv-loop
     μ-loop
     loop-holds
-    mul-from
-    shared-slice-read-from
+    (λ c. search needs) (λ c. search needs)
     add-from
     add-end
-    sub-same-bytes
-    part-same-bytes-start
+    (λ c. search needs) (λ c. search needs)
     part-same-bytes-end
-    same-bytes-requires
+    (λ c κs. search needs)
     returns
-    add-k
-    loop-less
+    (λ c. search needs) (λ c. search needs)
     loop-again
     returns-2)

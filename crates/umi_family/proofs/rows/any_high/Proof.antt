@@ -20,29 +20,14 @@ abbrev μ-loop : tie.MeasureT-loop
 loop-holds : tie.Need-loop-holds Inv-loop μ-loop
 loop-holds c = (omega arith, refl)
 
-mul-from : tie.Need-mul-from Inv-loop μ-loop
-mul-from c = search needs
-
-shared-slice-read-from : tie.Need-shared-slice-read-from Inv-loop μ-loop
-shared-slice-read-from c = search needs
-
 add-from : tie.Need-add-from Inv-loop μ-loop
 add-from c = let o = c .before .before in omega (arith, o .before .before .before .pre .2 (o .loop .k) (omega arith))
 
 add-end : tie.Need-add-end Inv-loop μ-loop
 add-end c = let o = c .before .before in omega (arith, o .before .before .before .pre .2 (o .loop .k) (omega arith))
 
-sub-high-in : tie.Need-sub-high-in Inv-loop μ-loop
-sub-high-in c = search needs
-
-part-high-in-start : tie.Need-part-high-in-start Inv-loop μ-loop
-part-high-in-start c = search needs
-
 part-high-in-end : tie.Need-part-high-in-end Inv-loop μ-loop
 part-high-in-end c = let o = c .before .before in omega (arith, o .before .before .before .pre .2 (o .loop .k) (omega arith))
-
-high-in-requires : tie.Need-high-in-requires Inv-loop μ-loop
-high-in-requires c κs = search needs
 
 returns : tie.Need-returns Inv-loop μ-loop
 returns c =
@@ -51,12 +36,6 @@ returns c =
     let from = byteAt (a .places .now) (o .loop .k) + 1 in
     let said = row-told (any isHigh) (a .set .now) from (a .width) _ _ (c .before .high-in .ensures) (c .if1 .taken) in
     given-found _ (a .places .now) _ (o .loop .k) (omega arith) said ∙ o .loop .inv .1
-
-add-k : tie.Need-add-k Inv-loop μ-loop
-add-k c = search needs
-
-loop-less : tie.Need-loop-less Inv-loop μ-loop
-loop-less c = search needs
 
 loop-again : tie.Need-loop-again Inv-loop μ-loop
 loop-again c =
@@ -78,16 +57,13 @@ any-high-spec =
     Inv-loop
     μ-loop
     loop-holds
-    mul-from
-    shared-slice-read-from
+    (λ c. search needs) (λ c. search needs)
     add-from
     add-end
-    sub-high-in
-    part-high-in-start
+    (λ c. search needs) (λ c. search needs)
     part-high-in-end
-    high-in-requires
+    (λ c κs. search needs)
     returns
-    add-k
-    loop-less
+    (λ c. search needs) (λ c. search needs)
     loop-again
     returns-2)

@@ -28,15 +28,6 @@ returns-2 c = too-many _ _ _ (omega arith) (c .if2 .taken)
 loop-holds : tie.Need-loop-holds Inv-loop μ-loop
 loop-holds c = (omega arith, refl)
 
-mul-follow : tie.Need-mul-follow Inv-loop μ-loop
-mul-follow c = search needs
-
-shared-slice-read-follow : tie.Need-shared-slice-read-follow Inv-loop μ-loop
-shared-slice-read-follow c = search needs
-
-follow-requires : tie.Need-follow-requires Inv-loop μ-loop
-follow-requires c κs = search needs
-
 returns-3 : tie.Need-returns-3 Inv-loop μ-loop
 returns-3 c =
     let o = c .before .before .before .before in
@@ -44,12 +35,6 @@ returns-3 c =
     let ps = a .places .now in
     let no = sym (c .before .follow .ensures) ∙ not-true _ (c .if3 .taken) in
     each-fits (a .width) (a .set .now) ps (omega arith) (omega arith) _ (every-failed _ ps 0 (o .loop .k) (omega arith) no ∙ o .loop .inv .1)
-
-add-k : tie.Need-add-k Inv-loop μ-loop
-add-k c = search needs
-
-loop-less : tie.Need-loop-less Inv-loop μ-loop
-loop-less c = search needs
 
 loop-again : tie.Need-loop-again Inv-loop μ-loop
 loop-again c =
@@ -74,11 +59,8 @@ fit-spec =
     returns
     returns-2
     loop-holds
-    mul-follow
-    shared-slice-read-follow
-    follow-requires
+    (λ c. search needs) (λ c. search needs) (λ c κs. search needs)
     returns-3
-    add-k
-    loop-less
+    (λ c. search needs) (λ c. search needs)
     loop-again
     returns-4)

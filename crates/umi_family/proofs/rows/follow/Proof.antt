@@ -10,12 +10,6 @@ use Rattle.umi_family.proofs.rows.follow.Tie as tie
 returns : tie.Need-returns
 returns c = let a = c .before .args in sym (lt-leb (a .place + 1 + a .width) (a .size) (omega arith))
 
-sub-if2 : tie.Need-sub-if2
-sub-if2 c = search needs
-
-sub-if2-2 : tie.Need-sub-if2-2
-sub-if2-2 c = search needs
-
 returns-2 : tie.Need-returns-2
 returns-2 c = let a = c .before .before .args in sym (lt-leb (a .place + 1 + a .width) (a .size) (omega arith))
 
@@ -23,4 +17,7 @@ returns-3 : tie.Need-returns-3
 returns-3 c = let a = c .before .before .args in sym (le-leb (a .place + 1 + a .width) (a .size) (omega arith))
 
 pub follow-spec : {M : Type 1} → statement M
-follow-spec = tie.close (tie.spec returns sub-if2 sub-if2-2 returns-2 returns-3)
+follow-spec =
+    tie.close
+    (tie.spec
+    returns (λ c. search needs) (λ c. search needs) returns-2 returns-3)

@@ -23,24 +23,6 @@ returns c = let a = c .before .before .before .args in like-lengths (a .first .n
 loop-holds : tie.Need-loop-holds Inv-loop μ-loop
 loop-holds c = (omega arith, refl)
 
-shared-slice-read-f : tie.Need-shared-slice-read-f Inv-loop μ-loop
-shared-slice-read-f c = search needs
-
-shared-slice-read-b : tie.Need-shared-slice-read-b Inv-loop μ-loop
-shared-slice-read-b c = search needs
-
-is-dna-base-requires : tie.Need-is-dna-base-requires Inv-loop μ-loop
-is-dna-base-requires c κs = search needs
-
-is-dna-base-requires-2 : tie.Need-is-dna-base-requires-2 Inv-loop μ-loop
-is-dna-base-requires-2 c κs = search needs
-
-add-i : tie.Need-add-i Inv-loop μ-loop
-add-i c = search needs
-
-loop-less : tie.Need-loop-less Inv-loop μ-loop
-loop-less c = search needs
-
 loop-again : tie.Need-loop-again Inv-loop μ-loop
 loop-again c =
     let o = c .before .before .before .before .before in
@@ -61,11 +43,7 @@ like-row-spec =
     μ-loop
     returns
     loop-holds
-    shared-slice-read-f
-    shared-slice-read-b
-    is-dna-base-requires
-    is-dna-base-requires-2
-    add-i
-    loop-less
+    (λ c. search needs) (λ c. search needs) (λ c κs. search needs) (λ c κs. search needs)
+    (λ c. search needs) (λ c. search needs)
     loop-again
     returns-2)

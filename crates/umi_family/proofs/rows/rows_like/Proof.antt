@@ -31,12 +31,6 @@ add-from c = omega (arith, c .before .before .before .pre .2 0 (omega arith))
 add-end : tie.Need-add-end Inv-loop μ-loop
 add-end c = omega (arith, c .before .before .before .pre .2 0 (omega arith))
 
-sub-first : tie.Need-sub-first Inv-loop μ-loop
-sub-first c = search needs
-
-part-first-start : tie.Need-part-first-start Inv-loop μ-loop
-part-first-start c = search needs
-
 part-first-end : tie.Need-part-first-end Inv-loop μ-loop
 part-first-end c = omega (arith, c .before .before .before .pre .2 0 (omega arith))
 
@@ -49,12 +43,6 @@ loop-holds c =
     rw (given-at (λ p. take (a .width) (drop (p + 1) (a .set .now))) (a .places .now) 0 [] (c .before .before .before .before .pre .0)) (like-self f) in
     (omega arith, every-first (likeRow f) rows [] self)
 
-mul-from : tie.Need-mul-from Inv-loop μ-loop
-mul-from c = search needs
-
-shared-slice-read-from-2 : tie.Need-shared-slice-read-from-2 Inv-loop μ-loop
-shared-slice-read-from-2 c = search needs
-
 add-from-2 : tie.Need-add-from-2 Inv-loop μ-loop
 add-from-2 c =
     let o = c .before .before in omega (arith, o .before .before .before .before .before .pre .2 (o .loop .k) (omega arith))
@@ -63,18 +51,9 @@ add-end-2 : tie.Need-add-end-2 Inv-loop μ-loop
 add-end-2 c =
     let o = c .before .before in omega (arith, o .before .before .before .before .before .pre .2 (o .loop .k) (omega arith))
 
-sub-like-row : tie.Need-sub-like-row Inv-loop μ-loop
-sub-like-row c = search needs
-
-part-like-row-start : tie.Need-part-like-row-start Inv-loop μ-loop
-part-like-row-start c = search needs
-
 part-like-row-end : tie.Need-part-like-row-end Inv-loop μ-loop
 part-like-row-end c =
     let o = c .before .before in omega (arith, o .before .before .before .before .before .pre .2 (o .loop .k) (omega arith))
-
-like-row-requires : tie.Need-like-row-requires Inv-loop μ-loop
-like-row-requires c κs = search needs
 
 returns : tie.Need-returns Inv-loop μ-loop
 returns c =
@@ -85,12 +64,6 @@ returns c =
     let lent = rw (row-lent (a .set .now) (byteAt (a .places .now) 0 + 1) (a .width)) at (c .before .like-row .ensures) in
     let said = row-told (likeRow f) (a .set .now) from (a .width) _ _ lent (not-true _ (c .if1 .taken)) in
     given-failed _ (a .places .now) _ (o .loop .k) (omega arith) said ∙ o .loop .inv .1
-
-add-k : tie.Need-add-k Inv-loop μ-loop
-add-k c = search needs
-
-loop-less : tie.Need-loop-less Inv-loop μ-loop
-loop-less c = search needs
 
 loop-again : tie.Need-loop-again Inv-loop μ-loop
 loop-again c =
@@ -116,20 +89,16 @@ rows-like-spec =
     shared-slice-read-from
     add-from
     add-end
-    sub-first
-    part-first-start
+    (λ c. search needs) (λ c. search needs)
     part-first-end
     loop-holds
-    mul-from
-    shared-slice-read-from-2
+    (λ c. search needs) (λ c. search needs)
     add-from-2
     add-end-2
-    sub-like-row
-    part-like-row-start
+    (λ c. search needs) (λ c. search needs)
     part-like-row-end
-    like-row-requires
+    (λ c κs. search needs)
     returns
-    add-k
-    loop-less
+    (λ c. search needs) (λ c. search needs)
     loop-again
     returns-2)

@@ -29,18 +29,9 @@ gather-requires c κs =
     let a = o .before .before .before .args in
     fits-less (o .loop .at + 1) (a .width) (a .set .now) (a .places .now) (omega arith) (o .before .before .before .pre)
 
-array-share-prefix-column : tie.Need-array-share-prefix-column Inv-loop μ-loop
-array-share-prefix-column c = search needs
-
 slice-aggregate-column-verdict : tie.Need-slice-aggregate-column-verdict Inv-loop μ-loop
 slice-aggregate-column-verdict c =
     let a = c .before .before .before .before .before .before .args in gathered-count (a .set .now) (a .places .now) _ _ (c .before .gather .ensures)
-
-column-verdict-requires : tie.Need-column-verdict-requires Inv-loop μ-loop
-column-verdict-requires c κs = search needs
-
-enum-known-r : tie.Need-enum-known-r Inv-loop μ-loop
-enum-known-r c = search needs
 
 returns : tie.Need-returns Inv-loop μ-loop
 returns c =
@@ -53,15 +44,6 @@ returns c =
     let here = column-at (a .width) (a .set .now) (a .places .now) at (omega arith) ∙ sym (g .ensures) in
     let v = c .before .before .before .column-verdict in
     refusal-found cs at (omega arith) _ (ap verdictOf here ∙ sym (v .ensures .0) ∙ c .before .r .given .1) ∙ o .loop .inv .1
-
-enum-told : tie.Need-enum-told Inv-loop μ-loop
-enum-told c = search needs
-
-add-at : tie.Need-add-at Inv-loop μ-loop
-add-at c = omega arith
-
-loop-less : tie.Need-loop-less Inv-loop μ-loop
-loop-less c = omega arith
 
 loop-again : tie.Need-loop-again Inv-loop μ-loop
 loop-again c =
@@ -90,13 +72,10 @@ columns-verdict-spec =
     μ-loop
     loop-holds
     gather-requires
-    array-share-prefix-column
+    (λ c. search needs)
     slice-aggregate-column-verdict
-    column-verdict-requires
-    enum-known-r
+    (λ c κs. search needs) (λ c. search needs)
     returns
-    enum-told
-    add-at
-    loop-less
+    (λ c. search needs) (λ c. omega arith) (λ c. omega arith)
     loop-again
     returns-2)

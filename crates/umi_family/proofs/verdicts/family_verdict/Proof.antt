@@ -32,9 +32,6 @@ within c =
     let e : fitting (a .width) (a .set .now) (a .places .now) ≡ true = sym (c .before .fit .ensures) ∙ not-false _ (c .if1 .left) in
     (e, fits (a .width) (a .set .now) (a .places .now) e)
 
-fit-requires : tie.Need-fit-requires
-fit-requires c κs = search needs
-
 returns : tie.Need-returns
 unfolding verdictAt
 returns c =
@@ -73,7 +70,7 @@ pub family-verdict-spec : {M : Type 1} → statement M
 family-verdict-spec =
     tie.close
     (tie.spec
-    fit-requires
+    (λ c κs. search needs)
     returns
     looks-sound-requires
     returns-2

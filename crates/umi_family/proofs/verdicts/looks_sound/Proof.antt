@@ -11,32 +11,17 @@ use Rattle.umi_family.proofs.Likeness.{like-sound}
 use Rattle.umi_family.proofs.verdicts.looks_sound.Statement.{statement}
 use Rattle.umi_family.proofs.verdicts.looks_sound.Tie as tie
 
-shared-slice-read-from : tie.Need-shared-slice-read-from
-shared-slice-read-from c = search needs
-
 add-from : tie.Need-add-from
 add-from c = omega (arith, c .before .before .before .pre .2 0 (omega arith))
 
 add-end : tie.Need-add-end
 add-end c = omega (arith, c .before .before .before .pre .2 0 (omega arith))
 
-sub-high-in : tie.Need-sub-high-in
-sub-high-in c = search needs
-
-part-high-in-start : tie.Need-part-high-in-start
-part-high-in-start c = search needs
-
 part-high-in-end : tie.Need-part-high-in-end
 part-high-in-end c = omega (arith, c .before .before .before .pre .2 0 (omega arith))
 
-high-in-requires : tie.Need-high-in-requires
-high-in-requires c κs = search needs
-
 returns : tie.Need-returns
 returns c = λ e. clash refl e
-
-rows-like-requires : tie.Need-rows-like-requires
-rows-like-requires c κs = search needs
 
 returns-2 : tie.Need-returns-2
 returns-2 c =
@@ -50,13 +35,12 @@ pub looks-sound-spec : {M : Type 1} → statement M
 looks-sound-spec =
     tie.close
     (tie.spec
-    shared-slice-read-from
+    (λ c. search needs)
     add-from
     add-end
-    sub-high-in
-    part-high-in-start
+    (λ c. search needs) (λ c. search needs)
     part-high-in-end
-    high-in-requires
+    (λ c κs. search needs)
     returns
-    rows-like-requires
+    (λ c κs. search needs)
     returns-2)

@@ -5,15 +5,9 @@ use Rattle.unanimous_shortcut.specs.Search.{advanced}
 use Rattle.unanimous_shortcut.proofs.search.first_steps.Statement.{statement}
 use Rattle.unanimous_shortcut.proofs.search.first_steps.Tie as tie
 
-element-copy-out-if1 : tie.Need-element-copy-out-if1
-element-copy-out-if1 c = search needs
-
 returns : tie.Need-returns
 unfolding advanced
 returns c = (rw (c .if1 .taken), omega arith)
-
-element-copy-out-if2 : tie.Need-element-copy-out-if2
-element-copy-out-if2 c = search needs
 
 returns-2 : tie.Need-returns-2
 unfolding advanced
@@ -25,4 +19,4 @@ returns-3 c = (rw (c .before .before .if1 .left, c .if2 .left), omega arith)
 
 pub first-steps-spec : {M : Type 1} → statement M
 first-steps-spec =
-    tie.close (tie.spec element-copy-out-if1 returns element-copy-out-if2 returns-2 returns-3)
+    tie.close (tie.spec (λ c. search needs) returns (λ c. search needs) returns-2 returns-3)

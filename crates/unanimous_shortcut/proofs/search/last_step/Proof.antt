@@ -13,18 +13,6 @@ use Rattle.unanimous_shortcut.specs.Search.{entry, advanced}
 use Rattle.unanimous_shortcut.proofs.search.last_step.Statement.{statement}
 use Rattle.unanimous_shortcut.proofs.search.last_step.Tie as tie
 
-place-requires : tie.Need-place-requires
-place-requires c κs = search needs
-
-mul-if1 : tie.Need-mul-if1
-mul-if1 c = search needs
-
-element-copy-out-if1 : tie.Need-element-copy-out-if1
-element-copy-out-if1 c = search needs
-
-add-result : tie.Need-add-result
-add-result c = search needs
-
 -- what the definition does, by the place that is read
 step : (t : List Float) (gap : Float) (p : ℕ) → p ≤ 94 → advanced t gap p 1 ≡ (if le (entry t (min p 93)) gap then min p 93 + 1 else p)
 unfolding advanced
@@ -47,4 +35,7 @@ returns-2 c = (rw (step _ _ _ (c .before .before .before .pre), ← c .before .b
 
 pub last-step-spec : {M : Type 1} → statement M
 last-step-spec =
-    tie.close (tie.spec place-requires mul-if1 element-copy-out-if1 add-result returns returns-2)
+    tie.close
+    (tie.spec
+    (λ c κs. search needs) (λ c. search needs) (λ c. search needs) (λ c. search needs) returns
+    returns-2)

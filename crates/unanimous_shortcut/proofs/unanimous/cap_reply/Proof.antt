@@ -5,36 +5,9 @@ use Rattle.unanimous_shortcut.specs.Unanimous.{capReply}
 use Rattle.unanimous_shortcut.proofs.unanimous.cap_reply.Statement.{statement}
 use Rattle.unanimous_shortcut.proofs.unanimous.cap_reply.Tie as tie
 
-outside-requires : tie.Need-outside-requires
-outside-requires c κs = search needs
-
 returns : tie.Need-returns
 unfolding capReply
 returns c = rw (eq-eqb _ _ (c .before .if1 .taken)) (c .outside .ensures)
-
-unanimous-margin-requires : tie.Need-unanimous-margin-requires
-unanimous-margin-requires c κs = search needs
-
-sub-cerr-at-cap : tie.Need-sub-cerr-at-cap
-sub-cerr-at-cap c = search needs
-
-mul-cerr-at-cap : tie.Need-mul-cerr-at-cap
-mul-cerr-at-cap c = search needs
-
-element-copy-out-cerr-at-cap : tie.Need-element-copy-out-cerr-at-cap
-element-copy-out-cerr-at-cap c = search needs
-
-mul-if2 : tie.Need-mul-if2
-mul-if2 c = search needs
-
-element-copy-out-if2 : tie.Need-element-copy-out-if2
-element-copy-out-if2 c = search needs
-
-byte-requires : tie.Need-byte-requires
-byte-requires c κs = search needs
-
-called-requires : tie.Need-called-requires
-called-requires c κs = search needs
 
 returns-2 : tie.Need-returns-2
 unfolding capReply
@@ -57,16 +30,10 @@ pub cap-reply-spec : {M : Type 1} → statement M
 cap-reply-spec =
     tie.close
     (tie.spec
-    outside-requires
+    (λ c κs. search needs)
     returns
-    unanimous-margin-requires
-    sub-cerr-at-cap
-    mul-cerr-at-cap
-    element-copy-out-cerr-at-cap
-    mul-if2
-    element-copy-out-if2
-    byte-requires
-    called-requires
+    (λ c κs. search needs) (λ c. search needs) (λ c. search needs) (λ c. search needs)
+    (λ c. search needs) (λ c. search needs) (λ c κs. search needs) (λ c κs. search needs)
     returns-2
     returns-3
     returns-4)

@@ -4,9 +4,6 @@ use Rattle.unanimous_shortcut.specs.Unanimous.{leads}
 use Rattle.unanimous_shortcut.proofs.unanimous.leads.Statement.{statement}
 use Rattle.unanimous_shortcut.proofs.unanimous.leads.Tie as tie
 
-is-finite-requires : tie.Need-is-finite-requires
-is-finite-requires c κs = search needs
-
 returns : tie.Need-returns
 unfolding leads
 returns c = rw (← c .before .is-finite .ensures, c .if1 .taken)
@@ -16,4 +13,4 @@ unfolding leads
 returns-2 c = rw (← c .before .is-finite .ensures, c .if1 .left)
 
 pub leads-spec : {M : Type 1} → statement M
-leads-spec = tie.close (tie.spec is-finite-requires returns returns-2)
+leads-spec = tie.close (tie.spec (λ c κs. search needs) returns returns-2)

@@ -9,32 +9,11 @@ returns : tie.Need-returns
 unfolding replyForLane
 returns c = rw (le-ltb _ _ (c .if1 .taken))
 
-mul-winner-ll : tie.Need-mul-winner-ll
-mul-winner-ll c = search needs
-
-array-read-winner-ll : tie.Need-array-read-winner-ll
-array-read-winner-ll c = search needs
-
-add-loser-ll : tie.Need-add-loser-ll
-add-loser-ll c = search needs
-
-mul-loser-ll : tie.Need-mul-loser-ll
-mul-loser-ll c = search needs
-
-array-read-loser-ll : tie.Need-array-read-loser-ll
-array-read-loser-ll c = search needs
-
-leads-requires : tie.Need-leads-requires
-leads-requires c κs = search needs
-
 returns-2 : tie.Need-returns-2
 unfolding replyForLane
 returns-2 c =
     let l = c .before in
     rw (lt-ltb _ _ (l .before .if1 .left), ← l .leads .ensures, not-true (l .leads .result) (c .if2 .taken))
-
-is-finite-requires : tie.Need-is-finite-requires
-is-finite-requires c κs = search needs
 
 returns-3 : tie.Need-returns-3
 unfolding replyForLane
@@ -43,9 +22,6 @@ returns-3 c =
     let l = f .before .before in
     rw (lt-ltb _ _ (l .before .if1 .left), ← l .leads .ensures, not-false (l .leads .result) (f .before .if2 .left), ← f .is-finite .ensures, not-true (f .is-finite .result) (c .if3 .taken))
 
-untied-requires : tie.Need-untied-requires
-untied-requires c κs = search needs
-
 returns-4 : tie.Need-returns-4
 unfolding replyForLane
 returns-4 c =
@@ -53,9 +29,6 @@ returns-4 c =
     let f = u .before .before in
     let l = f .before .before in
     rw (lt-ltb _ _ (l .before .if1 .left), ← l .leads .ensures, not-false (l .leads .result) (f .before .if2 .left), ← f .is-finite .ensures, not-false (f .is-finite .result) (u .before .if3 .left), ← u .untied .ensures, not-true (u .untied .result) (c .if4 .taken))
-
-gap-reply-requires : tie.Need-gap-reply-requires
-gap-reply-requires c κs = search needs
 
 returns-5 : tie.Need-returns-5
 unfolding replyForLane
@@ -70,16 +43,12 @@ reply-for-lane-spec =
     tie.close
     (tie.spec
     returns
-    mul-winner-ll
-    array-read-winner-ll
-    add-loser-ll
-    mul-loser-ll
-    array-read-loser-ll
-    leads-requires
+    (λ c. search needs) (λ c. search needs) (λ c. search needs) (λ c. search needs)
+    (λ c. search needs) (λ c κs. search needs)
     returns-2
-    is-finite-requires
+    (λ c κs. search needs)
     returns-3
-    untied-requires
+    (λ c κs. search needs)
     returns-4
-    gap-reply-requires
+    (λ c κs. search needs)
     returns-5)

@@ -7,16 +7,10 @@ use Rattle.unanimous_shortcut.proofs.unanimous.try_unanimous_fast_path.
 }
 use Rattle.unanimous_shortcut.proofs.unanimous.try_unanimous_fast_path.Tie as tie
 
-sole-lane-requires : tie.Need-sole-lane-requires
-sole-lane-requires c κs = search needs
-
-reply-for-lane-requires : tie.Need-reply-for-lane-requires
-reply-for-lane-requires c κs = search needs
-
 returns : tie.Need-returns
 unfolding unanimousReply replyForLane
 returns c = rw (← c .before .sole-lane .ensures) (c .reply-for-lane .ensures)
 
 pub try-unanimous-fast-path-spec : {M : Type 1} → statement M
 try-unanimous-fast-path-spec =
-    tie.close (tie.spec sole-lane-requires reply-for-lane-requires returns)
+    tie.close (tie.spec (λ c κs. search needs) (λ c κs. search needs) returns)

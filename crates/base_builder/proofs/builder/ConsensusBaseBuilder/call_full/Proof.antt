@@ -4,12 +4,9 @@ use Rattle.base_builder.specs.Calls.{callFullOf}
 use Rattle.base_builder.proofs.builder.ConsensusBaseBuilder.call_full.Statement.{statement}
 use Rattle.base_builder.proofs.builder.ConsensusBaseBuilder.call_full.Tie as tie
 
-call-full-requires : tie.Need-call-full-requires
-call-full-requires c κs = search needs
-
 returns : tie.Need-returns
 unfolding callFullOf
 returns c = c .call-full .ensures
 
 pub call-full-spec : {M : Type 1} → statement M
-call-full-spec = tie.close (tie.spec call-full-requires returns)
+call-full-spec = tie.close (tie.spec (λ c κs. search needs) returns)

@@ -6,15 +6,9 @@ use Rattle.base_builder.proofs.builder.ConsensusBaseBuilder.contributio
 }
 use Rattle.base_builder.proofs.builder.ConsensusBaseBuilder.contributions.Tie as tie
 
-total-requires : tie.Need-total-requires
-total-requires c κs = search needs
-
-cast-result : tie.Need-cast-result
-cast-result c = search needs
-
 returns : tie.Need-returns
 unfolding contributionsOf
 returns c = rw (c .total .ensures)
 
 pub contributions-spec : {M : Type 1} → statement M
-contributions-spec = tie.close (tie.spec total-requires cast-result returns)
+contributions-spec = tie.close (tie.spec (λ c κs. search needs) (λ c. search needs) returns)

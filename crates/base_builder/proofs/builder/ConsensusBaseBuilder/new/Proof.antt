@@ -7,15 +7,9 @@ use borrow.Author.Needs.{needs}
 use Rattle.base_builder.proofs.builder.ConsensusBaseBuilder.new.Statement.{statement}
 use Rattle.base_builder.proofs.builder.ConsensusBaseBuilder.new.Tie as tie
 
-phred-to-ln-error-prob-requires : tie.Need-phred-to-ln-error-prob-requires
-phred-to-ln-error-prob-requires c κs = search needs
-
-cleared-requires : tie.Need-cleared-requires
-cleared-requires c κs = search needs
-
 returns : tie.Need-returns
 unfolding newAt
 returns c = c .cleared .ensures ∙ ap (cleared FgbioCompat) (ap (λ (p : Float). record { 0 = p }) (c .before .phred-to-ln-error-prob .ensures))
 
 pub new-spec : {M : Type 1} → statement M
-new-spec = tie.close (tie.spec phred-to-ln-error-prob-requires cleared-requires returns)
+new-spec = tie.close (tie.spec (λ c κs. search needs) (λ c κs. search needs) returns)

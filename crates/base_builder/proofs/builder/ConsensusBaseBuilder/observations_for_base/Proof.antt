@@ -7,15 +7,6 @@ use Rattle.base_builder.proofs.builder.ConsensusBaseBuilder.observation
 }
 use Rattle.base_builder.proofs.builder.ConsensusBaseBuilder.observations_for_base.Tie as tie
 
-lane-of-requires : tie.Need-lane-of-requires
-lane-of-requires c κs = search needs
-
-mul-result : tie.Need-mul-result
-mul-result c = search needs
-
-array-read-result : tie.Need-array-read-result
-array-read-result c = search needs
-
 returns : tie.Need-returns
 unfolding observationsForBase
 returns c = rw (← c .before .lane-of .ensures, lt-ltb _ _ (c .if1 .taken))
@@ -26,4 +17,6 @@ returns-2 c = rw (← c .before .lane-of .ensures, le-ltb _ _ (c .if1 .left))
 
 pub observations-for-base-spec : {M : Type 1} → statement M
 observations-for-base-spec =
-    tie.close (tie.spec lane-of-requires mul-result array-read-result returns returns-2)
+    tie.close
+    (tie.spec
+    (λ c κs. search needs) (λ c. search needs) (λ c. search needs) returns returns-2)

@@ -4,12 +4,9 @@ use borrow.Author.Needs.{needs}
 use Rattle.base_builder.proofs.builder.ConsensusBaseBuilder.reset.Statement.{statement}
 use Rattle.base_builder.proofs.builder.ConsensusBaseBuilder.reset.Tie as tie
 
-cleared-requires : tie.Need-cleared-requires
-cleared-requires c κs = search needs
-
 returns : tie.Need-returns
 unfolding resetOf
 returns c = c .cleared .ensures
 
 pub reset-spec : {M : Type 1} → statement M
-reset-spec = tie.close (tie.spec cleared-requires returns)
+reset-spec = tie.close (tie.spec (λ c κs. search needs) returns)

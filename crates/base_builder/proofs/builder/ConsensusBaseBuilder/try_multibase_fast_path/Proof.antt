@@ -6,12 +6,9 @@ use Rattle.base_builder.proofs.builder.ConsensusBaseBuilder.try_multiba
 }
 use Rattle.base_builder.proofs.builder.ConsensusBaseBuilder.try_multibase_fast_path.Tie as tie
 
-try-multibase-fast-path-requires : tie.Need-try-multibase-fast-path-requires
-try-multibase-fast-path-requires c κs = search needs
-
 returns : tie.Need-returns
 unfolding multibaseOf
 returns c = c .try-multibase-fast-path .ensures
 
 pub try-multibase-fast-path-spec : {M : Type 1} → statement M
-try-multibase-fast-path-spec = tie.close (tie.spec try-multibase-fast-path-requires returns)
+try-multibase-fast-path-spec = tie.close (tie.spec (λ c κs. search needs) returns)

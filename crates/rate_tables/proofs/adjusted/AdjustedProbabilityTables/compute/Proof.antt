@@ -6,15 +6,9 @@ use Rattle.rate_tables.proofs.adjusted.AdjustedProbabilityTables.comput
 }
 use Rattle.rate_tables.proofs.adjusted.AdjustedProbabilityTables.compute.Tie as tie
 
-correct-table-requires : tie.Need-correct-table-requires
-correct-table-requires c κs = search needs
-
-error-table-requires : tie.Need-error-table-requires
-error-table-requires c κs = search needs
-
 returns : tie.Need-returns
 unfolding adjustedTables
 returns c = rw (c .before .correct-table .ensures, c .error-table .ensures)
 
 pub compute-spec : {M : Type 1} → statement M
-compute-spec = tie.close (tie.spec correct-table-requires error-table-requires returns)
+compute-spec = tie.close (tie.spec (λ c κs. search needs) (λ c κs. search needs) returns)

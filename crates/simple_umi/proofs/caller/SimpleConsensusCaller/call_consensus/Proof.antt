@@ -35,21 +35,6 @@ strings c =
 count : (c : tie.After-n) → length (stringsAt 0 (setOf c) (take (countOf c) (placesOf c))) ≡ countOf c
 count c = strings-count 0 (setOf c) (take (countOf c) (placesOf c)) (strings c .2) ∙ length-take-le (countOf c) (placesOf c) (strings c .1)
 
-read-places-requires : tie.Need-read-places-requires
-read-places-requires c κs = search needs
-
-enum-known-r : tie.Need-enum-known-r
-enum-known-r c = search needs
-
-refused-requires : tie.Need-refused-requires
-refused-requires c κs = search needs
-
-enum-known-n : tie.Need-enum-known-n
-enum-known-n c = search needs
-
-refused-requires-2 : tie.Need-refused-requires-2
-refused-requires-2 c κs = search needs
-
 returns : tie.Need-returns
 returns c =
     let g = c .before .before .before in
@@ -81,9 +66,6 @@ returns-2 c =
     (call-in-refused (s .set .now) (s .out .now) (s .self) _ e) (c .refused .ensures .1) (c .refused .ensures .0))
     (refused-short (x .answer) _ (c .refused .ensures .1)) (numbered (x .answer) (callConsensusIn (s .self) (s .set .now) (s .out .now)))
 
-same-length : tie.Need-same-length
-same-length c = search needs
-
 returns-3 : tie.Need-returns-3
 returns-3 c =
     let g = c .before .before .before .before .before .before .before in
@@ -103,15 +85,12 @@ pub call-consensus-spec : {M : Type 1} → statement M
 call-consensus-spec =
     tie.close
     (tie.spec
-    read-places-requires
-    enum-known-r
-    refused-requires
-    enum-known-n
-    refused-requires-2
+    (λ c κs. search needs) (λ c. search needs) (λ c κs. search needs) (λ c. search needs)
+    (λ c κs. search needs)
     returns
     array-share-prefix-places
     slice-aggregate-call-strings
     call-strings-requires
     returns-2
-    same-length
+    (λ c. search needs)
     returns-3)

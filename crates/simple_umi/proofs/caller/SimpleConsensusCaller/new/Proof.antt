@@ -4,12 +4,9 @@ use Rattle.simple_umi.specs.Consensus.{callerAt}
 use Rattle.simple_umi.proofs.caller.SimpleConsensusCaller.new.Statement.{statement}
 use Rattle.simple_umi.proofs.caller.SimpleConsensusCaller.new.Tie as tie
 
-new-requires : tie.Need-new-requires
-new-requires c κs = search needs
-
 returns : tie.Need-returns
 unfolding callerAt
 returns c = rw (c .new .ensures)
 
 pub new-spec : {M : Type 1} → statement M
-new-spec = tie.close (tie.spec new-requires returns)
+new-spec = tie.close (tie.spec (λ c κs. search needs) returns)

@@ -50,18 +50,6 @@ set-fits c h =
     let s = c .before .before .before .before .before .before .before .before .before .before .before .args in
     consensus-fits (s .set .now) (s .out .now) (s .self .caller) _ (strings (c .before .before .before .before) .0) (c .consensus-group .ensures .1 .1 h)
 
-read-places-requires : tie.Need-read-places-requires
-read-places-requires c κs = search needs
-
-enum-known-r : tie.Need-enum-known-r
-enum-known-r c = search needs
-
-flagged-refused-requires : tie.Need-flagged-refused-requires
-flagged-refused-requires c κs = search needs
-
-enum-known-n : tie.Need-enum-known-n
-enum-known-n c = search needs
-
 array-share-prefix-places : tie.Need-array-share-prefix-places
 array-share-prefix-places c = strings (c .before) .1
 
@@ -70,18 +58,6 @@ slice-aggregate-consensus-group c = let g = c .before .before in sym (length-tak
 
 consensus-group-requires : tie.Need-consensus-group-requires
 consensus-group-requires c κs = strings (c .before .before .before) .2
-
-enum-known-verdict : tie.Need-enum-known-verdict
-enum-known-verdict c = search needs
-
-flagged-refused-requires-2 : tie.Need-flagged-refused-requires-2
-flagged-refused-requires-2 c κs = search needs
-
-enum-told : tie.Need-enum-told
-enum-told c = search needs
-
-with-builder-requires : tie.Need-with-builder-requires
-with-builder-requires c κs = search needs
 
 returns : tie.Need-returns
 returns c =
@@ -96,9 +72,6 @@ returns c =
     (flagged-refused-short (x .answer) _ (c .flagged-refused .ensures .1)) (flagged-numbered (x .answer) (consensusIn (s .self .caller) (s .set .now) (s .out .now))))
     (λ h. consensus-refused-fits (s .set .now) (s .out .now) (s .self .caller) _ e)
 
-same-length : tie.Need-same-length
-same-length c = search needs
-
 returns-2 : tie.Need-returns-2
 returns-2 c =
     let g = c .before .before .before .before .before .before .before in
@@ -111,9 +84,6 @@ returns-2 c =
     (c .before .before .verdict .given .1) (c .flagged-refused2 .ensures .1) (c .flagged-refused2 .ensures .0))
     (flagged-refused-short (x .answer) _ (c .flagged-refused2 .ensures .1)) (flagged-numbered (x .answer) (consensusIn (s .self .caller) (s .set .now) (s .out .now))))
     (set-fits g)
-
-same-length-2 : tie.Need-same-length-2
-same-length-2 c = search needs
 
 returns-3 : tie.Need-returns-3
 returns-3 c =
@@ -132,19 +102,13 @@ pub consensus-spec : {M : Type 1} → statement M
 consensus-spec =
     tie.close
     (tie.spec
-    read-places-requires
-    enum-known-r
-    flagged-refused-requires
-    enum-known-n
+    (λ c κs. search needs) (λ c. search needs) (λ c κs. search needs) (λ c. search needs)
     array-share-prefix-places
     slice-aggregate-consensus-group
     consensus-group-requires
-    enum-known-verdict
-    flagged-refused-requires-2
-    enum-told
-    with-builder-requires
+    (λ c. search needs) (λ c κs. search needs) (λ c. search needs) (λ c κs. search needs)
     returns
-    same-length
+    (λ c. search needs)
     returns-2
-    same-length-2
+    (λ c. search needs)
     returns-3)

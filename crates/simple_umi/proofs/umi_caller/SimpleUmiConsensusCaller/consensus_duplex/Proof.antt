@@ -40,18 +40,6 @@ set-pair c =
     let k = c .duplex-group in
     pair-as (s .out .now) (k .result) (k .last .1 .1 .1 .0) _ _ (duplex-read (s .self .caller) (s .set .now) (s .out .now) _ (strings (c .before .before .before .before) .0)) (k .ensures .0)
 
-read-places-requires : tie.Need-read-places-requires
-read-places-requires c κs = search needs
-
-enum-known-r : tie.Need-enum-known-r
-enum-known-r c = search needs
-
-duplex-refused-requires : tie.Need-duplex-refused-requires
-duplex-refused-requires c κs = search needs
-
-enum-known-n : tie.Need-enum-known-n
-enum-known-n c = search needs
-
 array-share-prefix-places : tie.Need-array-share-prefix-places
 array-share-prefix-places c = strings (c .before) .1
 
@@ -61,18 +49,6 @@ slice-aggregate-duplex-group c = let g = c .before .before in sym (length-take-l
 duplex-group-requires : tie.Need-duplex-group-requires
 duplex-group-requires c κs = strings (c .before .before .before) .2
 
-enum-known-verdict : tie.Need-enum-known-verdict
-enum-known-verdict c = search needs
-
-duplex-refused-requires-2 : tie.Need-duplex-refused-requires-2
-duplex-refused-requires-2 c κs = search needs
-
-enum-told : tie.Need-enum-told
-enum-told c = search needs
-
-with-builder-requires : tie.Need-with-builder-requires
-with-builder-requires c κs = search needs
-
 returns : tie.Need-returns
 returns c =
     let s = c .before .before .before .before .before .before .before .before .before .args in
@@ -81,9 +57,6 @@ returns c =
     let e = read-refused (s .set .now) (r .last .1 .0) (replicate 255 0) (r .result) (r .ensures) _ (c .before .before .r .given .1) in
     ended-also (duplex-unread (s .self .caller) (s .set .now) (s .out .now) (x .answer) (x .caller .caller) _ e (c .duplex-refused .ensures .1) (c .duplex-refused .ensures .0))
     (duplex-refused-short (x .answer) _ (c .duplex-refused .ensures .1)) (duplex-numbered (x .answer) (duplexIn (s .self .caller) (s .set .now) (s .out .now)))
-
-same-length : tie.Need-same-length
-same-length c = search needs
 
 returns-2 : tie.Need-returns-2
 returns-2 c =
@@ -95,9 +68,6 @@ returns-2 c =
     (duplex-not-given (s .self .caller) (s .out .now) (k .last .1 .1 .1 .0) (x .answer) (x .caller .caller) (k .result) (duplexIn (s .self .caller) (s .set .now) (s .out .now)) (set-pair g) _
     (c .before .before .verdict .given .1) (c .duplex-refused2 .ensures .1) (c .duplex-refused2 .ensures .0))
     (duplex-refused-short (x .answer) _ (c .duplex-refused2 .ensures .1)) (duplex-numbered (x .answer) (duplexIn (s .self .caller) (s .set .now) (s .out .now)))
-
-same-length-2 : tie.Need-same-length-2
-same-length-2 c = search needs
 
 returns-3 : tie.Need-returns-3
 returns-3 c =
@@ -116,19 +86,13 @@ pub consensus-duplex-spec : {M : Type 1} → statement M
 consensus-duplex-spec =
     tie.close
     (tie.spec
-    read-places-requires
-    enum-known-r
-    duplex-refused-requires
-    enum-known-n
+    (λ c κs. search needs) (λ c. search needs) (λ c κs. search needs) (λ c. search needs)
     array-share-prefix-places
     slice-aggregate-duplex-group
     duplex-group-requires
-    enum-known-verdict
-    duplex-refused-requires-2
-    enum-told
-    with-builder-requires
+    (λ c. search needs) (λ c κs. search needs) (λ c. search needs) (λ c κs. search needs)
     returns
-    same-length
+    (λ c. search needs)
     returns-2
-    same-length-2
+    (λ c. search needs)
     returns-3)
