@@ -8,7 +8,7 @@ use super::report::{Answers, Field, Report};
 
 #[derive(Clone, Copy, PartialEq, Eq)]
 pub enum Cause {
-    /// The Rust's shortcut replies where document 01 has it not reply.
+    /// The Rust's shortcut replies where SCOPE has it not reply.
     Barred {
         shortcut: Field,
         bar: Bar,

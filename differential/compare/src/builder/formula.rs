@@ -1,5 +1,5 @@
 //! The calls of base_builder.rs, written anew over any four elementary functions: as the source has
-//! them, and with the conditions that document 01 adds to the shortcuts.
+//! them, and with the conditions that SCOPE adds to the shortcuts.
 //!
 //! Over the C library's functions and without these conditions they must give the Rust's answers,
 //! over ours and with them the library's. Where both hold, it is known why two answers differ.
@@ -49,7 +49,7 @@ pub struct Position {
     pub gaps: &'static Gaps,
 }
 
-/// Why document 01 has a shortcut not reply with a lane.
+/// Why SCOPE has a shortcut not reply with a lane.
 #[derive(Clone, Copy, PartialEq, Eq)]
 pub enum Bar {
     NotFinite,
@@ -58,7 +58,7 @@ pub enum Bar {
     Above,
 }
 
-/// Which elementary functions, and whether the shortcuts have document 01's conditions.
+/// Which elementary functions, and whether the shortcuts have SCOPE's conditions.
 pub struct Formula {
     elementary: &'static Elementary,
     barred: bool,

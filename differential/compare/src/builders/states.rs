@@ -61,7 +61,7 @@ const SPECIAL: [f64; 16] = [
     1.0,
 ];
 
-/// States that are chosen one by one: lanes that document 01 names, and the plainest ones of each
+/// States that are chosen one by one: lanes that SCOPE names, and the plainest ones of each
 /// known difference and of counts at the limit.
 pub fn chosen() -> Vec<State> {
     let (nan, infinity, limit) = (f64::NAN, f64::INFINITY, u32::MAX);

@@ -48,7 +48,7 @@ pub fn lines(seed: u64) -> Result<Lines, String> {
     Ok(Lines { function: "builder", lines: list.lines, left_out: list.left_out })
 }
 
-/// The histories that document 01 names: a new builder; ignored bytes alone; post rate 0 with A at 30
+/// The histories that SCOPE names: a new builder; ignored bytes alone; post rate 0 with A at 30
 /// and C at 0.
 fn named() -> Vec<(Settings, Vec<Event>)> {
     let mut named = Vec::new();
@@ -86,7 +86,7 @@ fn drawn_observations(random: &mut Random) -> Vec<Event> {
 #[derive(Default)]
 struct List {
     lines: Vec<String>,
-    /// How many are not stored, since ours differ from the Rust's: the conditions that document 01
+    /// How many are not stored, since ours differ from the Rust's: the conditions that SCOPE
     /// adds to the shortcuts. `compare builders` looks into these.
     left_out: usize,
 }

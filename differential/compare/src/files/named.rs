@@ -1,4 +1,4 @@
-//! The files that document 01 names, with what it says of them.
+//! The files that SCOPE names, with what it says of them.
 
 use super::listing::Found;
 use super::parts::{Made, Parts};
@@ -7,7 +7,7 @@ use super::row::Row;
 use crate::umis::condition::{CUT_OFF, MIXED, NOT_ASCII, TOO_LONG, UNLIKE_FIRST};
 use crate::umis::file_form::LONGEST;
 
-/// The file whose listing document 01 gives.
+/// The file whose listing SCOPE gives.
 pub const SAMPLE: [u8; 23] =
     [3, 90, 90, 0, 2, 0, 0, 0, 3, 0, 65, 20, 67, 20, 78, 20, 2, 2, 65, 67, 2, 65, 71];
 
@@ -20,7 +20,7 @@ umi AN true
 
 /// What the document says must be what the Rust's answers give, and ours.
 pub fn row() -> Row {
-    let mut row = Row::new("named in document 01");
+    let mut row = Row::new("named in SCOPE");
     for (file, text) in listed() {
         row.compare_made(&Made { bytes: file.clone(), number: Some(0) });
         let found = Found::of(&file).map(|found| found.text());

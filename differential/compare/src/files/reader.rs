@@ -1,4 +1,4 @@
-//! A column file, read. Written from document 01, which alone says what such a file is.
+//! A column file, read. Written from SCOPE, which alone says what such a file is.
 
 use crate::builder::{RULES, Settings};
 use crate::umis::condition::{CUT_OFF, MIXED, NOT_ASCII, TOO_LONG, UNLIKE_FIRST};

@@ -1,4 +1,4 @@
-//! Document 01's sample with something wrong at every place. Some of these are still files.
+//! SCOPE's sample with something wrong at every place. Some of these are still files.
 
 use super::named::SAMPLE;
 use super::parts::Made;

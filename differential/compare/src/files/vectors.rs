@@ -41,7 +41,7 @@ pub fn lines(seed: u64) -> Result<Lines, String> {
     Ok(Lines { function: "listing", lines: list.lines, left_out: list.left_out })
 }
 
-/// What document 01 names, but for the file that is refused for its length; its sample cut at every
+/// What SCOPE names, but for the file that is refused for its length; its sample cut at every
 /// place, and with a byte more; and counts as large as there is room for.
 fn chosen() -> Vec<Vec<u8>> {
     let listed = named::listed().into_iter().map(|(file, _)| file);

@@ -1,4 +1,4 @@
-//! Which condition of document 01's table a string set meets. Written from the table, so that it says
+//! Which condition of SCOPE's table a string set meets. Written from the table, so that it says
 //! what is to be refused where the Rust panics, and where the bytes may be no `String`.
 
 use super::function::Function;

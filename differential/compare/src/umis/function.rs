@@ -37,5 +37,5 @@ pub struct Rates {
     pub quality: u8,
 }
 
-/// Those that document 01 gives the caller.
+/// Those that SCOPE gives the caller.
 pub const DEFAULTS: Rates = Rates { pre: 90, post: 90, quality: 20 };

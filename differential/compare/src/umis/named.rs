@@ -1,4 +1,4 @@
-//! The sets that document 01 names, with what it says of them; and functions that there are not.
+//! The sets that SCOPE names, with what it says of them; and functions that there are not.
 
 use super::call::{Call, ROOM};
 use super::file_form::written;
@@ -19,7 +19,7 @@ struct Named {
 
 /// The sets by name. What the document says must be the Rust's answer and ours.
 pub fn row() -> Row {
-    let mut row = Row::new("named in document 01");
+    let mut row = Row::new("named in SCOPE");
     for named in named() {
         row.compare_set(&named.set);
         for function in named.functions {
