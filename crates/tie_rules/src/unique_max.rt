@@ -11,9 +11,9 @@ use crate::tie_rule::max_lane_with;
 
 // The source's Option of a lane.
 pub enum UniqueMax {
-    // The lane that holds the maximum, alone.
+    // The lane that the rule names.
     Lane(usize),
-    // A tie, or no maximum that can be called.
+    // It names none: a tie, or no maximum that it calls.
     NoLane,
 }
 
