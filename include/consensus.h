@@ -57,6 +57,12 @@ uint64_t consensus_listing(const uint8_t *file, size_t file_length, uint8_t *out
  * OUT is too short. */
 uint64_t consensus_list(const uint8_t *file, size_t file_length, uint8_t *out, size_t out_length);
 
+/* The same as numbers, CONSENSUS_RECORD bytes for each column: base, quality, two zeros, then depth, the counts of A, C, G and T, and
+ * how many observations were ignored, in 4 bytes each. Replies as consensus_listing; CONSENSUS_RECORDS_ROOM holds those of every file. */
+#define CONSENSUS_RECORD 28
+#define CONSENSUS_RECORDS_ROOM (28 * 32764)
+uint64_t consensus_records(const uint8_t *file, size_t file_length, uint8_t *out, size_t out_length);
+
 /* ---- UMI strings ------------------------------------------------------------------------------------------------------- */
 
 /* Which function of simple_umi.rs. */
