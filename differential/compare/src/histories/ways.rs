@@ -4,14 +4,9 @@ use super::tally::{Place, from_reset};
 use crate::builder::report::{Report, difference};
 use crate::builder::sides::{Run, Way};
 
-/// One script in so many goes the other ways, too. On one of them builder and tables are copied at
-/// each step, which takes the most time.
-const ONE_IN: u64 = 4;
-
 /// What came out of each of the other ways.
 #[derive(Default)]
 pub struct Ways {
-    scripts: u64,
     of_each: [OfWay; Way::OTHERS.len()],
 }
 
@@ -26,12 +21,8 @@ struct OfWay {
 }
 
 impl Ways {
-    /// Compares a script, or passes it over; these are its reports by the Rust.
+    /// Compares a script; these are its reports by the Rust.
     pub fn compare(&mut self, run: &Run, places: &[Place], rust: &[Report]) {
-        self.scripts += 1;
-        if (self.scripts - 1) % ONE_IN > 0 {
-            return;
-        }
         for (way, tally) in Way::OTHERS.into_iter().zip(&mut self.of_each) {
             tally.compare(way, run, places, rust);
         }
