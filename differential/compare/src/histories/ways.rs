@@ -64,23 +64,30 @@ impl OfWay {
             Ok(ours) => ours,
             Err(problem) => {
                 self.failed += 1;
-                return self.keep(way, run, &problem);
+                self.example.get_or_insert_with(|| words(way, run, &problem));
+                return;
             }
         };
         for ((ours, rust), place) in ours.iter().zip(rust).zip(places) {
             self.reports += 1;
             if ours != rust {
                 self.differing += 1;
-                let column = from_reset(run, place);
-                let shows = column.ours_by(way, column.rust().len()) != Ok(column.rust());
-                let again = if shows { column } else { *run };
-                self.keep(way, &again, &difference(ours, rust));
+                self.example.get_or_insert_with(|| {
+                    words(way, &shortest(way, run, place), &difference(ours, rust))
+                });
             }
         }
     }
+}
 
-    fn keep(&mut self, way: Way, run: &Run, problem: &str) {
-        let words = || format!("histories: {}: {problem}: {run}", way.name());
-        self.example.get_or_insert_with(words);
-    }
+/// The column of a report alone, where that shows a difference as well, and else the whole script.
+fn shortest<'a>(way: Way, run: &Run<'a>, place: &Place) -> Run<'a> {
+    let column = from_reset(run, place);
+    let rust = column.rust();
+    if column.ours_by(way, rust.len()) == Ok(rust) { *run } else { column }
+}
+
+/// What is wrong, and how to see it again.
+fn words(way: Way, run: &Run, problem: &str) -> String {
+    format!("histories: {}: {problem}: {run}", way.name())
 }
