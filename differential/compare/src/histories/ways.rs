@@ -4,14 +4,9 @@ use super::tally::{Place, from_reset};
 use crate::builder::report::{Report, difference};
 use crate::builder::sides::{Run, Way};
 
-/// One script in so many goes the other ways, too. On one of them builder and tables are copied at
-/// each step, which takes the most time.
-const ONE_IN: u64 = 4;
-
 /// What came out of each of the other ways.
 #[derive(Default)]
 pub struct Ways {
-    scripts: u64,
     of_each: [OfWay; Way::OTHERS.len()],
 }
 
@@ -26,12 +21,8 @@ struct OfWay {
 }
 
 impl Ways {
-    /// Compares a script, or passes it over; these are its reports by the Rust.
+    /// Compares a script; these are its reports by the Rust.
     pub fn compare(&mut self, run: &Run, places: &[Place], rust: &[Report]) {
-        self.scripts += 1;
-        if (self.scripts - 1) % ONE_IN > 0 {
-            return;
-        }
         for (way, tally) in Way::OTHERS.into_iter().zip(&mut self.of_each) {
             tally.compare(way, run, places, rust);
         }
@@ -73,23 +64,30 @@ impl OfWay {
             Ok(ours) => ours,
             Err(problem) => {
                 self.failed += 1;
-                return self.keep(way, run, &problem);
+                self.example.get_or_insert_with(|| words(way, run, &problem));
+                return;
             }
         };
         for ((ours, rust), place) in ours.iter().zip(rust).zip(places) {
             self.reports += 1;
             if ours != rust {
                 self.differing += 1;
-                let column = from_reset(run, place);
-                let shows = column.ours_by(way, column.rust().len()) != Ok(column.rust());
-                let again = if shows { column } else { *run };
-                self.keep(way, &again, &difference(ours, rust));
+                self.example.get_or_insert_with(|| {
+                    words(way, &shortest(way, run, place), &difference(ours, rust))
+                });
             }
         }
     }
+}
 
-    fn keep(&mut self, way: Way, run: &Run, problem: &str) {
-        let words = || format!("histories: {}: {problem}: {run}", way.name());
-        self.example.get_or_insert_with(words);
-    }
+/// The column of a report alone, where that shows a difference as well, and else the whole script.
+fn shortest<'a>(way: Way, run: &Run<'a>, place: &Place) -> Run<'a> {
+    let column = from_reset(run, place);
+    let rust = column.rust();
+    if column.ours_by(way, rust.len()) == Ok(rust) { *run } else { column }
+}
+
+/// What is wrong, and how to see it again.
+fn words(way: Way, run: &Run, problem: &str) -> String {
+    format!("histories: {}: {problem}: {run}", way.name())
 }
