@@ -1,52 +1,31 @@
 -- `umi_caller`: each arm is a function of the new caller, and the last gives 0. Assumes nothing.
 use mathlib.Core.Path.{refl}
 use borrow.Author.Tests.{ne-eqb}
-use Rattle.umi_replies.specs.Sent.{callerReply, callerBuffer}
 use borrow.Author.Needs.{needs}
+use Rattle.umi_replies.specs.Sent.{callerReply, callerBuffer}
 use Rattle.umi_replies.proofs.sent.umi_caller.Statement.{statement}
 use Rattle.umi_replies.proofs.sent.umi_caller.Tie as tie
-
-new-requires : tie.Need-new-requires
-new-requires c κs = search needs
-
-send-call-requires : tie.Need-send-call-requires
-send-call-requires c κs = search needs
-
-send-consensus-requires : tie.Need-send-consensus-requires
-send-consensus-requires c κs = search needs
-
-send-duplex-requires : tie.Need-send-duplex-requires
-send-duplex-requires c κs = search needs
-
-same-length : tie.Need-same-length
-same-length c = search needs
 
 returns : tie.Need-returns
 unfolding callerReply callerBuffer
 returns c =
     let k = c .before .before in
     let n = k .before .before .before in
-    rw (k .before .before .match .keys1, ← n .new .ensures) (k .send-call .ensures)
-
-same-length-2 : tie.Need-same-length-2
-same-length-2 c = search needs
+    rw (k .before .before .match .keys1, ← n .new .ensures) (k .send-asked .ensures)
 
 returns-2 : tie.Need-returns-2
 unfolding callerReply callerBuffer
 returns-2 c =
     let k = c .before .before in
     let n = k .before .before .before in
-    rw (k .before .before .match .keys2, ← n .new .ensures) (k .send-consensus .ensures)
-
-same-length-3 : tie.Need-same-length-3
-same-length-3 c = search needs
+    rw (k .before .before .match .keys2, ← n .new .ensures) (k .send-asked2 .ensures)
 
 returns-3 : tie.Need-returns-3
 unfolding callerReply callerBuffer
 returns-3 c =
     let k = c .before .before in
     let n = k .before .before .before in
-    rw (k .before .before .match .keys3, ← n .new .ensures) (k .send-duplex .ensures)
+    rw (k .before .before .match .keys3, ← n .new .ensures) (k .send-asked3 .ensures)
 
 returns-4 : tie.Need-returns-4
 unfolding callerReply callerBuffer
@@ -58,14 +37,5 @@ pub umi-caller-spec : {M : Type 1} → statement M
 umi-caller-spec =
     tie.close
     (tie.spec
-    new-requires
-    send-call-requires
-    send-consensus-requires
-    send-duplex-requires
-    same-length
-    returns
-    same-length-2
-    returns-2
-    same-length-3
-    returns-3
-    returns-4)
+    (λ c κs. search needs) (λ c κs. search needs) (λ c κs. search needs) (λ c κs. search needs)
+    (λ c. search needs) returns (λ c. search needs) returns-2 (λ c. search needs) returns-3 returns-4)
