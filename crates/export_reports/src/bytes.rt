@@ -1,4 +1,5 @@
 // Bytes put into a lent buffer at a place. Each gives the next place.
+ghost use mathlib.Core.Path.{_≡_};
 ghost use mathlib.Core.List.{[], _∷_};
 ghost use Prim.Native.Nat.{_+_, _≤_, _<_};
 ghost use lib.ListN.{length};
@@ -27,4 +28,13 @@ pub(crate) fn put_number(out: &mut [u8], at: usize, n: u64, width: usize) -> usi
         place += 1;
     }
     place
+}
+
+// A number in 8 bytes.
+pub fn number_bytes(n: u64) -> [u8; 8]
+    ensures { λ r. ⌜ r ≡ bytesOf 8 n ⌝ }
+{
+    let mut bytes = [0u8; 8];
+    put_number(&mut bytes, 0, n, 8);
+    bytes
 }

@@ -5,6 +5,7 @@ mod report;
 mod runs;
 mod state;
 
+pub use bytes::number_bytes;
 pub use report::builder_bytes;
 pub use runs::history;
 pub use runs::history_by;

@@ -9,8 +9,9 @@ use Rattle.refusals.specs.Result.{Result, refused, accepted}
 use Rattle.export_reports.specs.Report.{builderBytes}
 use Rattle.simple_umi.specs.declared.caller.SimpleConsensusCaller.{SimpleConsensusCaller}
 use Rattle.simple_umi.specs.Consensus.{Found}
-use Rattle.simple_umi.specs.Answers.{callConsensusIn, consensusIn, duplexIn, answerOf, flaggedOf, duplexAnswerOf, pairFound}
-use Rattle.export_umi.specs.Codes.{answerCode, flaggedCode, duplexCode}
+use Rattle.export_umi.specs.declared.asked.Question.{Question}
+use Rattle.export_umi.specs.declared.asked.Question.the-variants.{CallConsensus, Consensus, ConsensusDuplex}
+use Rattle.export_umi.specs.Asked.{foundBy, codeBy}
 
 -- room for every string
 abbrev pub room : List ℕ
@@ -32,37 +33,25 @@ abbrev pub sentBuffer : Result Found → List ℕ → List ℕ
 sentBuffer (refused r) out = out
 sentBuffer (accepted f) out = written (recordOf f) out
 
--- of each function
-abbrev pub callReply : SimpleConsensusCaller → List ℕ → List ℕ → ℕ
-callReply c set out = sentReply (answerCode (answerOf (callConsensusIn c set room))) (callConsensusIn c set room) out
+-- of a function
+abbrev pub askedReply : Question → SimpleConsensusCaller → List ℕ → List ℕ → ℕ
+askedReply q c set out = sentReply (codeBy q c set room) (foundBy q c set room) out
 
-abbrev pub callBuffer : SimpleConsensusCaller → List ℕ → List ℕ → List ℕ
-callBuffer c set out = sentBuffer (callConsensusIn c set room) out
-
-abbrev pub consensusReply : SimpleConsensusCaller → List ℕ → List ℕ → ℕ
-consensusReply c set out = sentReply (flaggedCode (flaggedOf (consensusIn c set room))) (consensusIn c set room) out
-
-abbrev pub consensusBuffer : SimpleConsensusCaller → List ℕ → List ℕ → List ℕ
-consensusBuffer c set out = sentBuffer (consensusIn c set room) out
-
-abbrev pub duplexReply : SimpleConsensusCaller → List ℕ → List ℕ → ℕ
-duplexReply c set out = sentReply (duplexCode (duplexAnswerOf (duplexIn c set room))) (pairFound (duplexIn c set room)) out
-
-abbrev pub duplexBuffer : SimpleConsensusCaller → List ℕ → List ℕ → List ℕ
-duplexBuffer c set out = sentBuffer (pairFound (duplexIn c set room)) out
+abbrev pub askedBuffer : Question → SimpleConsensusCaller → List ℕ → List ℕ → List ℕ
+askedBuffer q c set out = sentBuffer (foundBy q c set room) out
 
 -- 0 call_consensus, 1 consensus, 3 consensus_duplex; 0 for another number
 unfoldable pub callerReply : ℕ → SimpleConsensusCaller → List ℕ → List ℕ → ℕ
 callerReply which c set out =
-    if eqb which 0 then callReply c set out
-    else if eqb which 1 then consensusReply c set out
-    else if eqb which 3 then duplexReply c set out
+    if eqb which 0 then askedReply CallConsensus c set out
+    else if eqb which 1 then askedReply Consensus c set out
+    else if eqb which 3 then askedReply ConsensusDuplex c set out
     else 0
 
 -- what the buffer holds afterwards
 unfoldable pub callerBuffer : ℕ → SimpleConsensusCaller → List ℕ → List ℕ → List ℕ
 callerBuffer which c set out =
-    if eqb which 0 then callBuffer c set out
-    else if eqb which 1 then consensusBuffer c set out
-    else if eqb which 3 then duplexBuffer c set out
+    if eqb which 0 then askedBuffer CallConsensus c set out
+    else if eqb which 1 then askedBuffer Consensus c set out
+    else if eqb which 3 then askedBuffer ConsensusDuplex c set out
     else out

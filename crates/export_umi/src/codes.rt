@@ -58,6 +58,34 @@ pub(crate) fn duplex_code(answer: DuplexAnswer) -> u64
     }
 }
 
+// The length of the string, 0 for a refusal.
+pub(crate) fn answer_length(answer: Answer) -> usize
+    ensures { λ r. ⌜ r ≡ answerLength answer ⌝ }
+{
+    match answer {
+        Answer::Refused(_) => 0,
+        Answer::Given(n) => n,
+    }
+}
+
+pub(crate) fn flagged_length(answer: FlaggedAnswer) -> usize
+    ensures { λ r. ⌜ r ≡ flaggedLength answer ⌝ }
+{
+    match answer {
+        FlaggedAnswer::Refused(_) => 0,
+        FlaggedAnswer::Given(n, _) => n,
+    }
+}
+
+pub(crate) fn duplex_length(answer: DuplexAnswer) -> usize
+    ensures { λ r. ⌜ r ≡ duplexLength answer ⌝ }
+{
+    match answer {
+        DuplexAnswer::Refused(_) => 0,
+        DuplexAnswer::Given(n, _, _) => n,
+    }
+}
+
 // 0 call_consensus, 1 consensus, 2 consensus_umis, 3 consensus_duplex; another number gives 0.
 pub fn umi(which: u8, set: &[u8], out: &mut [u8]) -> u64
     ensures reply { λ r. ⌜ r ≡ umiReply which (now (set .entry)) (now (out .entry)) ⌝ }

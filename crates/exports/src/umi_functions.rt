@@ -1,8 +1,10 @@
 // The consensus of UMI strings, by the number of the function.
 ghost use mathlib.Core.Path.{_≡_};
+ghost use Rattle.lent_bytes.specs.Buffer.{lengthWritten, written};
 ghost use Rattle.simple_umi.specs.Consensus.{callerAt};
 ghost use Rattle.export_umi.specs.Codes.{umiReply, umiBuffer};
 ghost use Rattle.export_umi.specs.Sent.{callerReply, callerBuffer};
+ghost use Rattle.export_umi_sets.specs.Answers.{umiSetsBytes};
 use phred::PhredScore;
 
 // At the defaults.
@@ -33,6 +35,29 @@ pub extern "C" fn consensus_umi_caller(
         PhredScore(quality),
         which,
         set,
+        out,
+    )
+}
+
+// Of a new caller, set by set.
+#[no_mangle]
+pub extern "C" fn consensus_umi_sets(
+    pre: u8,
+    post: u8,
+    quality: u8,
+    which: u8,
+    sets: &[u8],
+    out: &mut [u8],
+) -> u64
+    ensures reply { λ r. ⌜ r ≡ lengthWritten (umiSetsBytes pre post quality which (now (sets .entry))) (now (out .entry)) ⌝ }
+    ensures lent { λ _. ⌜ now (out .exit) ≡ written (umiSetsBytes pre post quality which (now (sets .entry))) (now (out .entry)) ⌝ }
+{
+    export_umi_sets::umi_sets(
+        PhredScore(pre),
+        PhredScore(post),
+        PhredScore(quality),
+        which,
+        sets,
         out,
     )
 }

@@ -1,0 +1,34 @@
+-- The functions of a caller, each by its name: what it finds, and the code of its answer.
+use Prim.Native.Nat.{ℕ}
+use mathlib.Core.List.{List, []}
+use lib.ListN.{length}
+use Rattle.refusals.specs.Result.{Result, refused, accepted}
+use Rattle.simple_umi.specs.declared.caller.SimpleConsensusCaller.{SimpleConsensusCaller}
+use Rattle.simple_umi.specs.Consensus.{Found}
+use Rattle.simple_umi.specs.Answers.{callConsensusIn, consensusIn, duplexIn, answerOf, flaggedOf, duplexAnswerOf, pairFound, callerAfter}
+use Rattle.export_umi.specs.declared.asked.Asked.{Asked}
+use Rattle.export_umi.specs.declared.asked.Question.{Question}
+use Rattle.export_umi.specs.declared.asked.Question.the-variants.{CallConsensus, Consensus, ConsensusDuplex}
+use Rattle.export_umi.specs.Codes.{answerCode, flaggedCode, duplexCode}
+
+-- what is found of a set, with a buffer for the string
+abbrev pub foundBy : Question → SimpleConsensusCaller → List ℕ → List ℕ → Result Found
+foundBy CallConsensus c set text = callConsensusIn c set text
+foundBy Consensus c set text = consensusIn c set text
+foundBy ConsensusDuplex c set text = pairFound (duplexIn c set text)
+
+-- the code of the answer
+abbrev pub codeBy : Question → SimpleConsensusCaller → List ℕ → List ℕ → ℕ
+codeBy CallConsensus c set text = answerCode (answerOf (callConsensusIn c set text))
+codeBy Consensus c set text = flaggedCode (flaggedOf (consensusIn c set text))
+codeBy ConsensusDuplex c set text = duplexCode (duplexAnswerOf (duplexIn c set text))
+
+-- the string, none where it is refused
+abbrev pub textIn : Result Found → List ℕ
+textIn (refused r) = []
+textIn (accepted f) = f .text
+
+-- the code, how long the string is, and the caller afterwards
+abbrev pub askedOf : Question → SimpleConsensusCaller → List ℕ → List ℕ → Asked
+askedOf q c set text =
+    record { code = codeBy q c set text; length = length (textIn (foundBy q c set text)); caller = callerAfter c (foundBy q c set text) }
