@@ -12,7 +12,7 @@ written bs out =
     else out
 
 -- how many bytes were written: all, or none where the buffer is too short
-unfoldable pub replied : List ℕ → List ℕ → ℕ
-replied bs out =
+unfoldable pub lengthWritten : List ℕ → List ℕ → ℕ
+lengthWritten bs out =
     if leb (length bs) (length out) then length bs
     else 0
