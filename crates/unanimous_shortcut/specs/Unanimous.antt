@@ -82,11 +82,14 @@ gapReply t i winner loser =
     else if le (entry (t .thresholds) (t .cap)) (winner ⊖ loser) then capReply t i winner loser
     else bracketReply t i winner loser (partitionPoint (t .thresholds) (winner ⊖ loser))
 
--- The shortcut: one lane alone was observed, leads the next lane, is finite, and no other lane ties with it as the rule tests it.
-unfoldable pub unanimousReply : UnanimousGapTables → List Float → List ℕ → TieRule → Reply
-unanimousReply t xs ns rule =
-    let i = soleLane ns in
+-- where lane i alone was observed: it leads the next lane, is finite, and no other lane ties with it as the rule tests it
+unfoldable pub replyForLane : UnanimousGapTables → List Float → ℕ → TieRule → Reply
+replyForLane t xs i rule =
     let winner = lane xs i in
     let loser = lane xs ((i + 1) % 4) in
     if ltb i noLane && (leads winner loser && (finite winner && untied rule xs i winner)) then gapReply t i winner loser
     else Deferred
+
+-- the shortcut: for the lane that alone was observed
+unfoldable pub unanimousReply : UnanimousGapTables → List Float → List ℕ → TieRule → Reply
+unanimousReply t xs ns rule = replyForLane t xs (soleLane ns) rule
