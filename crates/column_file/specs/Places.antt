@@ -1,4 +1,4 @@
--- The parts of a file by their places, and what the functions reply.
+-- As it is run; `layout` (column_file/proofs/FileLayout) joins it to `readFile`: the parts of a file by their places, and what the functions reply.
 use mathlib.Core.Path.{_≡_}
 use Prim.Native.Nat.{ℕ, zero, suc, _+_, _*_, _≤_}
 use mathlib.Core.List.{List, [], _∷_}

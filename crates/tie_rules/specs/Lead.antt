@@ -1,4 +1,4 @@
--- fgbio's rule as it is run: a scan that begins at -infinity.
+-- As it is run; `lead-is` (tie_rules/proofs/Leading) joins it to `notMinusInfinity` of `fgbioUniqueMaxIndex`: a scan that begins at -infinity.
 use Prim.Native.Nat.{ℕ}
 use lib.Ieee.{Float, lt, le}
 use Rattle.float.specs.Ops.{_⊖_, epsilon}
