@@ -1,4 +1,5 @@
--- How many bytes of a column are each base, and when these counts alone name the lane.
+-- As it is run; `named-by-counts` (umi_count_laws/proofs/Named) joins it to `uniqueMaxIndexWith`: how many bytes are each base, and when these counts alone
+-- name the lane.
 use Prim.Native.Nat.{ℕ, suc, _<_}
 use mathlib.Core.Bool.{Bool, _&&_}
 use mathlib.Core.List.{List, [], _∷_}
