@@ -75,9 +75,13 @@ observed correct error k b =
 abbrev pub entryOf : ℕ → ℕ
 entryOf q = min q 93
 
+-- so many observations fill a builder
+abbrev pub fullCount : ℕ
+fullCount = 4294967295
+
 -- nothing more can be counted
 unfoldable pub isFull : ConsensusBaseBuilder → Bool
-isFull b = leb 4294967295 (total (b .observations))
+isFull b = leb fullCount (total (b .observations))
 
 -- the builder after a base was added with these two logarithms: a byte that is no base is ignored, and a full builder stays as it is
 unfoldable pub addedBy : Float → Float → ℕ → ConsensusBaseBuilder → ConsensusBaseBuilder

@@ -24,6 +24,9 @@ pub struct ConsensusBaseBuilder {
     pub ln_error_pre_umi: LogProbability,
 }
 
+// So many observations fill a builder.
+pub const FULL_COUNT: u64 = 4294967295;
+
 pub enum Answer {
     // The base was counted, or ignored as no base.
     Accepted,
@@ -188,7 +191,7 @@ pub fn add_entry(
         };
     }
     let observations = builder.observations;
-    if 4294967295 <= total(observations) {
+    if FULL_COUNT <= total(observations) {
         return Addition {
             builder: kept(builder),
             answer: Answer::Refused,

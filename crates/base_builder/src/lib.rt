@@ -7,6 +7,7 @@ mod observation;
 pub use builder::Addition;
 pub use builder::Answer;
 pub use builder::ConsensusBaseBuilder;
+pub use builder::FULL_COUNT;
 pub use builder::add_entry;
 pub use builder::add_with;
 pub use builder::entry;

@@ -9,7 +9,7 @@ use lib.Ieee.{Float, nan, lt, le, ofBits}
 use lib.Ieee.Bits.{is-true}
 use lib.Ieee.Scale.{finite}
 use borrow.Author.Tests.{le-ltb, le-leb, ne-eqb}
-use Rattle.float.specs.Ops.{_⊖_, bits}
+use Rattle.float.specs.Ops.{_⊖_, epsilon}
 use Rattle.words.proofs.Cases.{both, choice, clash}
 use Rattle.float.proofs.Order.{lt-trans, lt-le}
 use Rattle.phred.specs.Phred.{phredToLnErrorProb}
@@ -52,7 +52,7 @@ own-two pre =
     own-entry pre 2 (omega arith)
     ∙ rw (le-leb 2 (unanimousQualityFromGap (phredToLnErrorProb pre) gap0) (levels _ .0))
 
-epsilon-up : lt gap0 (bits 0x3cb0_0000_0000_0000) ≡ true
+epsilon-up : lt gap0 epsilon ≡ true
 unfolding lt ofBits
 epsilon-up = refl
 
@@ -85,9 +85,9 @@ module _ (pre i : ℕ) (winner loser : Float) where
   gap-names h =
       let gap = winner ⊖ loser in
       let cap = own-cap pre in
-      let wide = both (finite gap) (lt (bits 0x3cb0_0000_0000_0000) gap) h .1 in
+      let wide = both (finite gap) (lt epsilon gap) h .1 in
       let p = partitionPoint (t .thresholds) gap in
-      let two : le (entry (t .thresholds) 2) gap ≡ true = rw (own-two pre) (lt-le gap0 gap (lt-trans gap0 (bits 0x3cb0_0000_0000_0000) gap epsilon-up wide)) in
+      let two : le (entry (t .thresholds) 2) gap ≡ true = rw (own-two pre) (lt-le gap0 gap (lt-trans gap0 epsilon gap epsilon-up wide)) in
       let least = point-above (t .thresholds) gap (own-rise pre) 2 (omega arith) two in
       rw (le-ltb 93 (t .cap) (cap .1))
       (choice (Names i) (le (entry (t .thresholds) (t .cap)) gap) (capReply t i winner loser) (bracketReply t i winner loser p)

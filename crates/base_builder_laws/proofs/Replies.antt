@@ -16,7 +16,7 @@ use Rattle.lane_calls.specs.declared.call.Call.{Call}
 use Rattle.lane_calls.specs.declared.call.Reply.{Reply}
 use Rattle.lane_calls.specs.declared.call.Reply.the-variants.{Replied, Deferred}
 use Rattle.lane_calls.specs.Calls.{called, noCall}
-use Rattle.unanimous_shortcut.specs.Unanimous.{leads, soleLane, gapReply, unanimousReply}
+use Rattle.unanimous_shortcut.specs.Unanimous.{leads, soleLane, gapReply, replyForLane, unanimousReply}
 use Rattle.lane_calls.specs.Multibase.{restBelow, magnitudeBelow, finalError, deltaOf, stableReply, restReply, multibaseReply}
 use Rattle.lane_calls.specs.Full.{fullQuality, fullCall}
 use Rattle.base_builder.specs.declared.builder.ConsensusBaseBuilder.{ConsensusBaseBuilder}
@@ -34,7 +34,7 @@ asked b =
 -- any claim on its reply: where it asks for the tables' answer, and where it defers
 pub unanimous-by : (pre : ℕ) (b : ConsensusBaseBuilder) (P : Reply → Type 0)
     → ((r : Reply) → asked b ≡ true → Names (soleLane (b .observations)) r → P r) → P Deferred → P (unanimousOf (gapTables pre) b)
-unfolding unanimousOf unanimousReply
+unfolding unanimousOf unanimousReply replyForLane
 unanimous-by pre b P f d =
     let i = soleLane (b .observations) in
     let winner = lane (b .likelihoods) i in

@@ -21,7 +21,7 @@ use Rattle.tie_rules.specs.Lanes.{lane, noLane, laneOfByte, counted}
 use Rattle.tie_rules.proofs.Lanes.{lanes-at, lane-of-byte}
 use Rattle.base_builder.specs.declared.builder.ConsensusBaseBuilder.{ConsensusBaseBuilder}
 use Rattle.base_builder.specs.Observation.{countOf}
-use Rattle.base_builder.specs.Builder.{total, cleared, newAt, withTieRule, resetOf, sumOf, movedLane, observed, entryOf, isFull, addedBy, added}
+use Rattle.base_builder.specs.Builder.{total, cleared, newAt, withTieRule, resetOf, sumOf, movedLane, observed, entryOf, isFull, addedBy, added, fullCount}
 use Rattle.base_builder.specs.History.{Event, add, reset, setTieRule, step, run, after}
 use Rattle.base_builder_laws.specs.Counted.{Observation, countedSince, valuesOf, kahan, timesOf}
 
@@ -30,7 +30,7 @@ pub record Holds (t : AdjustedProbabilityTables) (os : List Observation) (b : Co
   pub sums : (i : ℕ) → i < 4 → sumOf b i ≡ kahan (valuesOf t i os)
   pub counts : (i : ℕ) → i < 4 → counted (b .observations) i ≡ timesOf i os
   pub all : timesOf 0 os + timesOf 1 os + timesOf 2 os + timesOf 3 os ≡ length os
-  pub most : length os ≤ 4294967295
+  pub most : length os ≤ fullCount
 
 cleared-holds : (t : AdjustedProbabilityTables) (rule : TieRule) (pre : LogProbability) → Holds t [] (cleared rule pre)
 unfolding cleared valuesOf kahan timesOf
@@ -50,7 +50,7 @@ times-most i (o ∷ os) =
     choice (λ (n : ℕ). n ≤ length (o ∷ os)) (eqb i (o .at)) (timesOf i os + 1) (timesOf i os) (λ _. omega arith) (λ _. omega arith)
 
 -- one more is counted in 32 bits as it is
-one-more : (c : Bool) (n : ℕ) → n < 4294967295 → (if c then (n + 1) % 2 ^ 32 else n) ≡ (if c then n + 1 else n)
+one-more : (c : Bool) (n : ℕ) → n < fullCount → (if c then (n + 1) % 2 ^ 32 else n) ≡ (if c then n + 1 else n)
 one-more true n h = omega arith
 one-more false n h = refl
 
@@ -66,14 +66,14 @@ one-in-all (suc (suc (suc zero))) q os h e = omega arith
 one-in-all (suc (suc (suc (suc k)))) q os h e = absurd (omega arith)
 
 module _ (t : AdjustedProbabilityTables) (os : List Observation) (b : ConsensusBaseBuilder) (had : Holds t os b) where
-  full-is : isFull b ≡ leb 4294967295 (length os)
+  full-is : isFull b ≡ leb fullCount (length os)
   unfolding isFull total
   full-is =
       let e : total (b .observations) ≡ length os =
       rw (had .counts 0 (omega arith), had .counts 1 (omega arith), had .counts 2 (omega arith), had .counts 3 (omega arith)) (had .all) in
-      ap (leb 4294967295) e
+      ap (leb fullCount) e
 
-  observed-holds : (k q : ℕ) → k < 4 → length os < 4294967295
+  observed-holds : (k q : ℕ) → k < 4 → length os < fullCount
       → Holds t (record { at = k; quality = q } ∷ os) (observed (getD (t .correct) (entryOf q) nan) (getD (t .«error_per_alt») (entryOf q) nan) k b)
   unfolding observed movedLane valuesOf kahan timesOf countOf
   observed-holds k q h f =
@@ -103,17 +103,17 @@ together t false os os' b b' h f = f refl
 module _ (t : AdjustedProbabilityTables) where
   added-holds : (base q : ℕ) (os : List Observation) (b : ConsensusBaseBuilder) → Holds t os b
       → Holds t
-      (if eqb (laneOfByte base) noLane || leb 4294967295 (length os) then os else record { at = laneOfByte base; quality = q } ∷ os)
+      (if eqb (laneOfByte base) noLane || leb fullCount (length os) then os else record { at = laneOfByte base; quality = q } ∷ os)
       (added (t .correct) (t .«error_per_alt») base q b)
   unfolding added addedBy
   added-holds base q os b had =
       rw (full-is t os b had)
-      (together t (eqb (laneOfByte base) noLane || leb 4294967295 (length os)) os _ b _ had
+      (together t (eqb (laneOfByte base) noLane || leb fullCount (length os)) os _ b _ had
       (λ e.
-      let n = neither (eqb (laneOfByte base) noLane) (leb 4294967295 (length os)) e in
+      let n = neither (eqb (laneOfByte base) noLane) (leb fullCount (length os)) e in
       let l = lane-of-byte base in
       let d = eqb-false (laneOfByte base) 4 (n .0) in
-      observed-holds t os b had (laneOfByte base) q (omega arith) (leb-false 4294967295 (length os) (n .1))))
+      observed-holds t os b had (laneOfByte base) q (omega arith) (leb-false fullCount (length os) (n .1))))
 
   run-holds : (es : List Event) (os : List Observation) (b : ConsensusBaseBuilder) → Holds t os b → Holds t (countedSince os es) (run t es b)
   unfolding countedSince run step resetOf withTieRule

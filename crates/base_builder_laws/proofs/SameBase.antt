@@ -9,7 +9,7 @@ use lib.Dec.{ltb, eqb}
 use lib.Ieee.{lt}
 use lib.Ieee.Scale.{finite}
 use borrow.Author.Tests.{ltb-true, eqb-true}
-use Rattle.float.specs.Ops.{_⊖_, bits}
+use Rattle.float.specs.Ops.{_⊖_, epsilon}
 use Rattle.words.specs.Choice.{if_then_else_}
 use Rattle.words.proofs.Cases.{both, clash}
 use Rattle.rate_tables.specs.declared.adjusted.AdjustedProbabilityTables.{AdjustedProbabilityTables}
@@ -61,7 +61,7 @@ module _ (t : AdjustedProbabilityTables) (os : List Observation) (b : ConsensusB
       let h1 = both (ltb i noLane) _ h in
       let h2 = both (leads winner (lane xs next)) _ (h1 .1) in
       let h3 = both (finite winner) (untied (b .«tie_rule») xs i winner) (h2 .1) in
-      let gap = both (finite (winner ⊖ lane xs next)) (lt (bits 0x3cb0_0000_0000_0000) (winner ⊖ lane xs next)) (h2 .0) .1 in
+      let gap = both (finite (winner ⊖ lane xs next)) (lt epsilon (winner ⊖ lane xs next)) (h2 .0) .1 in
       let inside = ltb-true i 4 (h1 .0) in
       let unseen = sole-others (b .observations) (h1 .0) in
       named xs i inside (h3 .0)

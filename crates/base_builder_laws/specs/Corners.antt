@@ -16,9 +16,13 @@ use Rattle.base_builder.specs.Builder.{entryOf}
 unfoldable pub sinksAt : ℕ → Bool
 sinksAt q = Bool·beq (eq (getD (adjustedTables 0 .correct) (entryOf q) nan) lnZero) (leb 27 q)
 
+-- 2^-50 = 8.881784197001252e-16
+abbrev pub p50 : Float
+p50 = bits 0x3cd0_0000_0000_0000
+
 -- x is within 2^-50 of ln(m / n)
 unfoldable pub aboutLn : Float → ℕ → ℕ → Bool
-aboutLn x m n = lt (absOf (x ⊖ lnOf (whole m ⊘ whole n))) (bits 0x3cd0_0000_0000_0000)
+aboutLn x m n = lt (absOf (x ⊖ lnOf (whole m ⊘ whole n))) p50
 
 -- at post-UMI rate 0 and quality 0 it gets about ln(1/3), and the others about ln(2/9)
 abbrev pub atQuality0 : List Bool

@@ -11,7 +11,7 @@ use Rattle.rate_tables.specs.declared.adjusted.AdjustedProbabilityTables.{Adjus
 use Rattle.tie_rules.specs.Lanes.{noLane, laneOfByte}
 use Rattle.base_builder.specs.declared.observation.Sum.{Sum}
 use Rattle.base_builder.specs.Observation.{movedBy, valueOf}
-use Rattle.base_builder.specs.Builder.{entryOf}
+use Rattle.base_builder.specs.Builder.{entryOf, fullCount}
 use Rattle.base_builder.specs.History.{Event, add, reset, setTieRule}
 
 -- an observation that was counted: its lane and its quality
@@ -24,7 +24,7 @@ unfoldable pub countedSince : List Observation → List Event → List Observati
 countedSince os [] = os
 countedSince os (add base q ∷ es) =
     countedSince
-    (if eqb (laneOfByte base) noLane || leb 4294967295 (length os) then os
+    (if eqb (laneOfByte base) noLane || leb fullCount (length os) then os
     else record { at = laneOfByte base; quality = q } ∷ os)
     es
 countedSince os (reset ∷ es) = countedSince [] es

@@ -7,7 +7,7 @@ use Rattle.gap_tables.specs.Gaps.{gapTables}
 use Rattle.tie_rules.specs.declared.tie_rule.TieRule.{TieRule}
 use Rattle.tie_rules.specs.Lanes.{noLane, baseOf, counted}
 use Rattle.base_builder.specs.declared.builder.ConsensusBaseBuilder.{ConsensusBaseBuilder}
-use Rattle.base_builder.specs.Builder.{total, sumOf, contributionsOf}
+use Rattle.base_builder.specs.Builder.{total, sumOf, contributionsOf, fullCount}
 use Rattle.base_builder.specs.Calls.{callOf}
 use Rattle.base_builder.specs.History.{Event, reset, run, after, ruled}
 use Rattle.base_builder_laws.specs.Counted.{countedSince, valuesOf, kahan, timesOf}
@@ -18,7 +18,7 @@ pub record Laws (pre post : ℕ) (rule : TieRule) (es : List Event) : Type 0 whe
   -- its count is the number of observations of its base that were counted since the last reset
   pub count : (i : ℕ) → i < 4 → counted (after pre post rule es .observations) i ≡ timesOf i (countedSince [] es)
   -- all counts together are never more than 4,294,967,295, so that none of them wraps
-  pub most : total (after pre post rule es .observations) ≤ 4294967295
+  pub most : total (after pre post rule es .observations) ≤ fullCount
   -- the base of the call is that of the rule's lane, N where there is none
   pub call-base : callOf (gapTables pre) (after pre post rule es) .base ≡ baseOf (ruled (after pre post rule es))
   -- as there is where nothing was counted

@@ -47,7 +47,7 @@ named xs fgbio ulp = eqb (baseOf (uniqueMaxIndexWith xs FgbioCompat)) fgbio && e
 abbrev pub minus : ℕ → Float
 minus n = neg (whole n)
 
--- 2^-53, 2^-43, 2^-10
+-- 2^-53 = 1.1102230246251565e-16, 2^-43 = 1.1368683772161603e-13, 2^-10 = 0.0009765625
 abbrev pub p53 : Float
 p53 = bits 0x3ca0_0000_0000_0000
 

@@ -1,4 +1,4 @@
--- The same with windows, tables and a first builder that are given: what the functions that borrow them say.
+-- As it is run; `builders-with` (column_calls/proofs/Tables) joins it to `builderOf`: with windows, tables and a first builder that are given.
 use Prim.Native.Nat.{ℕ, _+_}
 use mathlib.Core.List.{List, [], _∷_}
 use lib.Ieee.{Float}

@@ -14,7 +14,7 @@ use Rattle.refusals.specs.declared.Refusal.the-variants.{FileTooLong, CutOff, A
 use Rattle.refusals.specs.declared.Verdict.{Verdict}
 use Rattle.refusals.specs.declared.Verdict.the-variants.{Sound, Refused}
 use Rattle.refusals.specs.Result.{refused, accepted, judged, orElse}
-use Rattle.string_set.specs.Readers.{Taken, taken, short, next, many}
+use Rattle.string_set.specs.Readers.{Taken, taken, short, next, many, longestFile}
 use Rattle.string_set.proofs.Readers.{byte-at, byte-end, word-at, word-end, lone-long, lone-cut, lone-left, lone-all}
 use Rattle.column_file.specs.declared.columns.ColumnPlace.{ColumnPlace}
 use Rattle.column_file.specs.declared.columns.ColumnPlace.the-variants as place
@@ -271,11 +271,11 @@ walk-past at (taken cs r) e = cc
 
 module _ (s : List ℕ) where
   -- over 65,536 bytes
-  pub read-long : 65536 < length s → readColumn s ≡ refused FileTooLong
+  pub read-long : longestFile < length s → readColumn s ≡ refused FileTooLong
   unfolding readColumn
   read-long h = rw (lone-long column s h)
 
-  module _ (h : length s ≤ 65536) where
+  module _ (h : length s ≤ longestFile) where
     -- the bytes do not reach
     pub read-cut : column s ≡ short → readColumn s ≡ refused CutOff
     unfolding readColumn

@@ -11,13 +11,13 @@ use Rattle.refusals.specs.declared.Refusal.{Refusal}
 use Rattle.refusals.specs.declared.Verdict.{Verdict}
 use Rattle.refusals.specs.declared.Verdict.the-variants.{Sound, Refused}
 use Rattle.refusals.specs.Result.{Result, refused, accepted, judged}
-use Rattle.string_set.specs.Readers.{alone}
+use Rattle.string_set.specs.Readers.{alone, longestFile}
 use Rattle.column_file.specs.declared.settings.Settings.{Settings}
 use Rattle.column_file.specs.declared.file.Places.{Places}
 use Rattle.column_file.specs.declared.file.Reading.the-variants as reading
 use Rattle.column_file.specs.Format.{Sections, sections}
 use Rattle.column_file.specs.Reading.{settingsOf, columnsVerdict, File, fileOf, readFile}
-use Rattle.column_file.specs.Places.{placesOf, readingOf, Layout}
+use Rattle.column_file.specs.Places.{headSize, placesOf, readingOf, Layout}
 use Rattle.column_file.proofs.SettingsRead.{bytesOf, bytes-length, settings-three}
 use Rattle.column_file.proofs.Sections.{came, firstIn, Parts, parts}
 use Rattle.column_file.proofs.FileRead.{file-long, file-by}
@@ -31,21 +31,21 @@ judged-accepted (Refused r) a b e = absurd (let z : _≡_ {A = ℕ} 0 1 = cc in 
 abbrev saidBy : Sections → Settings → File
 saidBy d g = record { settings = g; columns = d .columns; strings = d .strings }
 
--- three settings bytes lead to place 6
-parts-layout : (s : List ℕ) (d : Sections) (g : Settings) → length s ≤ 65536 → Parts s d → settingsOf (d .settings) ≡ accepted g → Layout s (saidBy d g)
+-- three settings bytes make up the head
+parts-layout : (s : List ℕ) (d : Sections) (g : Settings) → length s ≤ longestFile → Parts s d → settingsOf (d .settings) ≡ accepted g → Layout s (saidBy d g)
 parts-layout s d g fits p e =
     let three : length (bytesOf s) ≡ 3 = ap length (sym (p .settings)) ∙ settings-three (d .settings) g e in
-    let six : firstIn s ≡ 6 = omega (arith, three, bytes-length s (p .reaches)) in
+    let six : firstIn s ≡ headSize = omega (arith, three, bytes-length s (p .reaches)) in
     record { size = fits; columns = rw six at (p .columns); inside = rw six at (p .inside); strings = rw six at (p .strings) }
 
 -- of every accepted file
 pub layout : (s : List ℕ) (f : File) → readFile s ≡ accepted f → Layout s f
 unfolding fileOf
 layout s f e =
-    test (ltb 65536 (length s))
-    (λ t. absurd (let z : _≡_ {A = ℕ} 0 1 = cc (file-long s (ltb-true 65536 (length s) t)) in omega arith))
+    test (ltb longestFile (length s))
+    (λ t. absurd (let z : _≡_ {A = ℕ} 0 1 = cc (file-long s (ltb-true longestFile (length s) t)) in omega arith))
     (λ t.
-    let fits : length s ≤ 65536 = ltb-false 65536 (length s) t in
+    let fits : length s ≤ longestFile = ltb-false longestFile (length s) t in
     let a = came (alone (sections s)) fileOf f (sym (file-by s fits) ∙ e) in
     let d = a .of in
     let b = came (settingsOf (d .settings)) (λ g. judged (columnsVerdict (d .columns)) (saidBy d g)) f (a .gave) in

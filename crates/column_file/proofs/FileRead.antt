@@ -9,24 +9,24 @@ use Rattle.refusals.specs.declared.Refusal.the-variants.{FileTooLong, CutOff, B
 use Rattle.refusals.specs.declared.Verdict.{Verdict}
 use Rattle.refusals.specs.declared.Verdict.the-variants.{Sound, Refused}
 use Rattle.refusals.specs.Result.{Result, refused, accepted, andThen}
-use Rattle.string_set.specs.Readers.{alone}
+use Rattle.string_set.specs.Readers.{alone, longestFile}
 use Rattle.string_set.proofs.Readers.{lone-long, lone-fits}
 use Rattle.column_file.specs.declared.settings.Settings.{Settings}
 use Rattle.column_file.specs.declared.file.Reading.the-variants as reading
 use Rattle.column_file.specs.Format.{Sections, sections}
 use Rattle.column_file.specs.Reading.{settingsOf, columnsVerdict, fileOf, readFile}
-use Rattle.column_file.specs.Places.{columnsSize, readingOf}
+use Rattle.column_file.specs.Places.{headSize, columnsSize, readingOf}
 use Rattle.column_file.proofs.SettingsRead.{bytesOf, only-bad, settings-three}
 use Rattle.column_file.proofs.Sections.{parts, Found}
 
 -- by what its bytes make up
 module _ (s : List ℕ) where
   -- over 65,536 of them
-  pub file-long : 65536 < length s → readFile s ≡ refused FileTooLong
+  pub file-long : longestFile < length s → readFile s ≡ refused FileTooLong
   unfolding readFile
   file-long h = rw (lone-long sections s h)
 
-  module _ (fits : length s ≤ 65536) where
+  module _ (fits : length s ≤ longestFile) where
     -- the sections decide
     pub file-by : readFile s ≡ andThen (alone (sections s)) fileOf
     unfolding readFile
@@ -62,12 +62,12 @@ module _ (s : List ℕ) where
         three = ap length (parts s fits f e .settings) ∙ settings-three (bytesOf s) g k
 
 -- an accepted file's answer
-module _ (s : List ℕ) (fits : length s ≤ 65536) (first n last : ℕ) (v : Verdict) (d : Found (alone (sections s)) first n last v) where
+module _ (s : List ℕ) (fits : length s ≤ longestFile) (first n last : ℕ) (v : Verdict) (d : Found (alone (sections s)) first n last v) where
   pub accepted-at : (g : Settings) → settingsOf (bytesOf s) ≡ accepted g → v ≡ Sound
       → reading.Accepted (record { settings = g; columns = first; count = n; strings = last }) ≡ readingOf (readFile s)
   accepted-at g k e =
       let f = d .sections in
       let t : length (f .settings) ≡ 3 = three s fits f (d .is) g k in
-      let a : first ≡ 6 = omega (arith, d .first) in
-      let b : last ≡ 6 + columnsSize (f .columns) = omega (arith, d .last) in
+      let a : first ≡ headSize = omega (arith, d .first) in
+      let b : last ≡ headSize + columnsSize (f .columns) = omega (arith, d .last) in
       rw (file-whole s fits f (d .is) g k (sym (d .verdict) ∙ e), a, b, d .count)

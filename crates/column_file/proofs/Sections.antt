@@ -13,7 +13,7 @@ use Rattle.refusals.specs.declared.Refusal.the-variants.{CutOff}
 use Rattle.refusals.specs.declared.Verdict.{Verdict}
 use Rattle.refusals.specs.declared.Verdict.the-variants.{Sound}
 use Rattle.refusals.specs.Result.{Result, refused, accepted, andThen}
-use Rattle.string_set.specs.Readers.{Taken, taken, short, many, alone}
+use Rattle.string_set.specs.Readers.{Taken, taken, short, many, alone, longestFile}
 use Rattle.string_set.specs.StringSet.{stringSet, readSet}
 use Rattle.string_set.specs.declared.Reading.the-variants as set
 use Rattle.string_set.specs.Places.{readingOf}
@@ -70,13 +70,13 @@ module _ (s : List ℕ) where
     unfolding sections columns
     columns-cut e = rw (settings-at s (omega arith), word-at s (1 + byteAt s 0) (omega arith), same, e)
 
-    module _ (fits : length s ≤ 65536) (cs : List (List Observation)) (place : ℕ) (e : many column announcedIn (drop firstIn s) ≡ taken cs (drop place s)) where
+    module _ (fits : length s ≤ longestFile) (cs : List (List Observation)) (place : ℕ) (e : many column announcedIn (drop firstIn s) ≡ taken cs (drop place s)) where
       -- what follows them is the string set
       pub sections-next : alone (sections s) ≡ andThen (readSet (drop place s)) (λ l. accepted (sectionsOf s cs l))
       unfolding sections columns readSet
       sections-next =
           let f : List (List ℕ) → Sections = sectionsOf s cs in
-          let k : length (drop place s) ≤ 65536 = rw (length-drop place s) (omega arith) in
+          let k : length (drop place s) ≤ longestFile = rw (length-drop place s) (omega arith) in
           let fit = sym (lone-fits stringSet (drop place s) k) in
           rw (settings-at s (omega arith), word-at s (1 + byteAt s 0) (omega arith), same, e)
           (alone-next f (stringSet (drop place s)) ∙ ap (λ (q : Result (List (List ℕ))). andThen q (λ l. accepted (f l))) fit)
@@ -91,7 +91,7 @@ pub record Parts (s : List ℕ) (f : Sections) : Type 0 where
   pub inside : firstIn s + columnsSize (f .columns) ≤ length s
   pub strings : readSet (drop (firstIn s + columnsSize (f .columns)) s) ≡ accepted (f .strings)
 
-module _ (s : List ℕ) (fits : length s ≤ 65536) (f : Sections) (e : alone (sections s) ≡ accepted f) where
+module _ (s : List ℕ) (fits : length s ≤ longestFile) (f : Sections) (e : alone (sections s) ≡ accepted f) where
   -- from what the columns are read as
   parts-of : firstIn s ≤ length s → (t : Taken (List (List Observation))) → many column (announcedIn s) (drop (firstIn s) s) ≡ t
       → Ended s (firstIn s) (announcedIn s) t → Parts s f
@@ -145,7 +145,7 @@ module _ (s : List ℕ) (first n : ℕ) (at : (first ≡ firstIn s) × (n ≡ an
   pub extent-columns : walk.Past ≡ walkedFrom first Sound (many column n (drop first s)) → extent.Cut ≡ extentOf (alone (sections s))
   extent-columns e = extent-cut s (columns-cut s (at .2) (rw (at .0, at .1) at (walk-past first (many column n (drop first s)) e)))
 
-  module _ (fits : length s ≤ 65536) (place : ℕ) (v : Verdict) (w : Walk s first n place v) where
+  module _ (fits : length s ≤ longestFile) (place : ℕ) (v : Verdict) (w : Walk s first n place v) where
     -- the string set decides
     next : alone (sections s) ≡ andThen (readSet (drop place s)) (λ l. accepted (sectionsOf s (w .columns) l))
     next = sections-next s (at .2) fits (w .columns) place (rw (at .0, at .1) at (w .read))

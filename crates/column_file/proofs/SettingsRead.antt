@@ -13,7 +13,7 @@ use Rattle.words.specs.Lists.{byteAt}
 use Rattle.refusals.specs.declared.Refusal.{Refusal}
 use Rattle.refusals.specs.declared.Refusal.the-variants.{FileTooLong, CutOff, BadSettings}
 use Rattle.refusals.specs.Result.{Result, refused, accepted, andThen}
-use Rattle.string_set.specs.Readers.{taken, short}
+use Rattle.string_set.specs.Readers.{taken, short, longestFile}
 use Rattle.string_set.proofs.Readers.{byte-at, byte-end, word-at, word-end, front-at, front-end, lone-long, lone-cut, lone-left, lone-all}
 use Rattle.column_file.specs.declared.settings.Settings.{Settings}
 use Rattle.column_file.specs.declared.settings.Head.{Head}
@@ -138,11 +138,11 @@ is-accepted (accepted x) g e = cc
 
 module _ (s : List ℕ) where
   -- over 65,536 bytes
-  pub read-long : 65536 < length s → readSettings s ≡ refused FileTooLong
+  pub read-long : longestFile < length s → readSettings s ≡ refused FileTooLong
   unfolding readSettings
   read-long h = rw (lone-long announced s h)
 
-  module _ (h : length s ≤ 65536) where
+  module _ (h : length s ≤ longestFile) where
     -- the bytes do not reach
     pub read-cut : length s < 3 + byteAt s 0 → readSettings s ≡ refused CutOff
     unfolding readSettings

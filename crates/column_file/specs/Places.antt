@@ -1,4 +1,4 @@
--- The parts of a file by their places, and what the functions reply.
+-- As it is run; `layout` (column_file/proofs/FileLayout) joins it to `readFile`: the parts of a file by their places, and what the functions reply.
 use mathlib.Core.Path.{_≡_}
 use Prim.Native.Nat.{ℕ, zero, suc, _+_, _*_, _≤_}
 use mathlib.Core.List.{List, [], _∷_}
@@ -10,7 +10,7 @@ use Rattle.refusals.specs.declared.Refusal.the-variants.{CutOff}
 use Rattle.refusals.specs.declared.Verdict.{Verdict}
 use Rattle.refusals.specs.Refusals.{numberOf}
 use Rattle.refusals.specs.Result.{Result, refused, accepted, orElse}
-use Rattle.string_set.specs.Readers.{Taken, taken, short}
+use Rattle.string_set.specs.Readers.{Taken, taken, short, longestFile}
 use Rattle.string_set.specs.StringSet.{readSet}
 use Rattle.column_file.specs.declared.settings.Settings.{Settings}
 use Rattle.column_file.specs.declared.settings.SettingsReading.{SettingsReading}
@@ -34,6 +34,10 @@ use Rattle.column_file.specs.Format.{Observation, Sections}
 use Rattle.column_file.specs.Reading.{columnsVerdict, File}
 
 -- ---- where a part is
+
+-- in an accepted file the columns start after a count byte, three settings and a two-byte count
+abbrev pub headSize : ℕ
+headSize = 6
 
 -- the two-byte count at a place
 abbrev pub wordAt : List ℕ → ℕ → ℕ
@@ -93,7 +97,7 @@ extentOf (accepted f) =
 
 -- of an accepted file: its settings, where its columns start, how many they are, and where its string set starts
 abbrev pub placesOf : File → Places
-placesOf f = record { settings = f .settings; columns = 6; count = length (f .columns); strings = 6 + columnsSize (f .columns) }
+placesOf f = record { settings = f .settings; columns = headSize; count = length (f .columns); strings = headSize + columnsSize (f .columns) }
 
 -- of a file
 abbrev pub readingOf : Result File → Reading
@@ -136,9 +140,9 @@ columnNumber (columnReading.Accepted n) = 0
 
 pub record Layout (s : List ℕ) (f : File) : Type 0 where
   -- in at most 65,536 bytes
-  pub size : length s ≤ 65536
-  -- the columns from place 6 on
-  pub columns : columnsAt s 6 (length (f .columns)) ≡ f .columns
+  pub size : length s ≤ longestFile
+  -- the columns after the head
+  pub columns : columnsAt s headSize (length (f .columns)) ≡ f .columns
   -- and after them, to the end, the string set
-  pub inside : 6 + columnsSize (f .columns) ≤ length s
-  pub strings : readSet (drop (6 + columnsSize (f .columns)) s) ≡ accepted (f .strings)
+  pub inside : headSize + columnsSize (f .columns) ≤ length s
+  pub strings : readSet (drop (headSize + columnsSize (f .columns)) s) ≡ accepted (f .strings)

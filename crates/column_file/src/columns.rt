@@ -92,7 +92,7 @@ pub fn read_column(part: &[u8]) -> ColumnReading
     ensures reading { λ r. ⌜ r ≡ columnReadingOf (readColumn (now (part .entry))) ⌝ }
     ensures number { λ r. ⌜ columnNumber r ≡ numberIn (readColumn (now (part .entry))) ⌝ }
 {
-    if 65536 < part.len() {
+    if string_set::LONGEST_FILE < part.len() {
         return ColumnReading::Refused(Refusal::FileTooLong);
     }
     let place = column_at(part, 0);

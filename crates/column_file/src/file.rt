@@ -3,7 +3,7 @@ ghost use mathlib.Core.Path.{_≡_};
 ghost use Prim.Native.Nat.{_≤_};
 ghost use lib.ListN.{length};
 ghost use Rattle.refusals.specs.Refusals.{numberIn};
-ghost use Rattle.string_set.specs.Readers.{alone};
+ghost use Rattle.string_set.specs.Readers.{alone, longestFile};
 ghost use Rattle.column_file.specs.Format.{sections};
 ghost use Rattle.column_file.specs.Reading.{readFile};
 ghost use Rattle.column_file.specs.Places.{extentOf, readingOf, readingNumber};
@@ -38,7 +38,7 @@ pub enum Extent {
 
 // The sections by their counts, up to the last byte.
 fn sections_of(file: &[u8]) -> Extent
-    requires { ⌜ length (now file) ≤ 65536 ⌝ }
+    requires { ⌜ length (now file) ≤ longestFile ⌝ }
     ensures { λ r. ⌜ r ≡ extentOf (alone (sections (now (file .entry)))) ⌝ }
 {
     let start = head_of(file);
@@ -62,7 +62,7 @@ pub fn read(file: &[u8]) -> Reading
     ensures reading { λ r. ⌜ r ≡ readingOf (readFile (now (file .entry))) ⌝ }
     ensures number { λ r. ⌜ readingNumber r ≡ numberIn (readFile (now (file .entry))) ⌝ }
 {
-    if 65536 < file.len() {
+    if string_set::LONGEST_FILE < file.len() {
         return Reading::Refused(Refusal::FileTooLong);
     }
     let found = sections_of(file);

@@ -81,7 +81,7 @@ pub fn read_settings(part: &[u8]) -> SettingsReading
     ensures reading { λ r. ⌜ r ≡ settingsReadingOf (readSettings (now (part .entry))) ⌝ }
     ensures number { λ r. ⌜ settingsNumber r ≡ numberIn (readSettings (now (part .entry))) ⌝ }
 {
-    if 65536 < part.len() {
+    if string_set::LONGEST_FILE < part.len() {
         return SettingsReading::Refused(Refusal::FileTooLong);
     }
     let start = head_of(part);

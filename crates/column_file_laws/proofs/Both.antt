@@ -17,7 +17,7 @@ use Rattle.refusals.specs.Result.{Result, refused, accepted, andThen, judged}
 use Rattle.tie_rules.specs.declared.tie_rule.TieRule.{TieRule}
 use Rattle.tie_rules.specs.declared.tie_rule.TieRule.the-variants.{UlpRelative, FgbioCompat}
 use Rattle.tie_rules.specs.Ties.{ruleOf}
-use Rattle.string_set.specs.Readers.{Taken, taken, short, next, byte, word, front, many, alone, lone}
+use Rattle.string_set.specs.Readers.{Taken, taken, short, next, byte, word, front, many, alone, lone, longestFile}
 use Rattle.string_set.specs.StringSet.{string, stringSet}
 use Rattle.column_file.specs.declared.settings.Settings.{Settings}
 use Rattle.column_file.specs.Format.{observation, column, settings, columns, Sections, sections}
@@ -113,25 +113,25 @@ module _ {A : Type 0} (number : List ℕ → Taken ℕ) (digits : ℕ → List �
 
 -- alone
 module _ {A : Type 0} (one : List ℕ → Taken A) (bytes : A → List ℕ) (k : Kind one bytes) where
-  lone-back : (a : A) → length (bytes a) ≤ 65536 → lone one (bytes a) ≡ accepted a
+  lone-back : (a : A) → length (bytes a) ≤ longestFile → lone one (bytes a) ≡ accepted a
   lone-back a h =
       let e : one (bytes a) ≡ taken a [] = rw (append-nil (bytes a)) at (k .back a []) in
-      rw (le-ltb 65536 (length (bytes a)) h, e)
+      rw (le-ltb longestFile (length (bytes a)) h, e)
 
   -- s is its bytes, and not too long
   abbrev Whole : List ℕ → A → Type 0
-  Whole s a = (bytes a ≡ s) × (length s ≤ 65536)
+  Whole s a = (bytes a ≡ s) × (length s ≤ longestFile)
 
-  alone-off : (s : List ℕ) → length s ≤ 65536 → (t : Taken A) → Taking (Off bytes s) t → Accepting (Whole s) (alone t)
+  alone-off : (s : List ℕ) → length s ≤ longestFile → (t : Taken A) → Taking (Off bytes s) t → Accepting (Whole s) (alone t)
   alone-off s h short e = tt
   alone-off s h (taken a []) e = (sym (append-nil (bytes a)) ∙ e, h)
   alone-off s h (taken a (x ∷ r)) e = tt
 
   lone-off : (s : List ℕ) → every isByte s ≡ true → Accepting (Whole s) (lone one s)
   lone-off s h =
-      choice (Accepting (Whole s)) (ltb 65536 (length s)) (refused FileTooLong) (alone (one s))
+      choice (Accepting (Whole s)) (ltb longestFile (length s)) (refused FileTooLong) (alone (one s))
       (λ e. tt)
-      (λ e. alone-off s (ltb-false 65536 (length s) e) (one s) (k .off s h))
+      (λ e. alone-off s (ltb-false longestFile (length s) e) (one s) (k .off s h))
 
 -- ---- each kind
 
@@ -256,7 +256,7 @@ settings-off (a ∷ b ∷ c ∷ d ∷ r) = rw (ne-eqb (length (a ∷ b ∷ c ∷
 
 -- ---- the file
 
-file-back : (f : File) → length (fileBytes f) ≤ 65536 → columnsVerdict (f .columns) ≡ Sound → readFile (fileBytes f) ≡ accepted f
+file-back : (f : File) → length (fileBytes f) ≤ longestFile → columnsVerdict (f .columns) ≡ Sound → readFile (fileBytes f) ≡ accepted f
 unfolding readFile fileOf fileBytes settingsBytes stringBytes
 file-back f h v =
     let g = f .settings in

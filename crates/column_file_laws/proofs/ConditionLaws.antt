@@ -12,7 +12,7 @@ use Rattle.refusals.specs.declared.Verdict.the-variants.{Sound, Refused}
 use Rattle.refusals.specs.Refusals.{numberIn}
 use Rattle.refusals.specs.Result.{refused, accepted, orElse, firstRefused}
 use Rattle.words.specs.Choice.{if_then_else_}
-use Rattle.string_set.specs.Readers.{alone}
+use Rattle.string_set.specs.Readers.{alone, longestFile}
 use Rattle.column_file.specs.Format.{Observation, Sections, sections}
 use Rattle.column_file.specs.Reading.{settingsOf, observationVerdict, columnVerdict, columnsVerdict, fileOf, readFile}
 use Rattle.column_file_laws.specs.Conditions.{isSettings, isAbsent, Conditions}
@@ -40,10 +40,10 @@ columns-absent : (cs : List (List Observation)) → columnsVerdict cs ≡ absent
 unfolding columnsVerdict
 columns-absent cs = first-absent columnVerdict (any isAbsent) column-absent cs
 
-module _ (s : List ℕ) (h : length s ≤ 65536) (f : Sections) (e : alone (sections s) ≡ accepted f) where
+module _ (s : List ℕ) (h : length s ≤ longestFile) (f : Sections) (e : alone (sections s) ≡ accepted f) where
   by-sections : readFile s ≡ fileOf f
   unfolding readFile
-  by-sections = rw (le-ltb 65536 (length s) h, e)
+  by-sections = rw (le-ltb longestFile (length s) h, e)
 
   three : isSettings (f .settings) ≡ false → numberIn (fileOf f) ≡ 3
   unfolding fileOf settingsOf
@@ -57,13 +57,13 @@ module _ (s : List ℕ) (h : length s ≤ 65536) (f : Sections) (e : alone (sect
   unfolding fileOf settingsOf
   none k a = rw (k, columns-absent (f .columns), a)
 
-one : (s : List ℕ) → 65536 < length s → numberIn (readFile s) ≡ 1
+one : (s : List ℕ) → longestFile < length s → numberIn (readFile s) ≡ 1
 unfolding readFile
-one s h = rw (lt-ltb 65536 (length s) h)
+one s h = rw (lt-ltb longestFile (length s) h)
 
-two : (s : List ℕ) → length s ≤ 65536 → alone (sections s) ≡ refused CutOff → numberIn (readFile s) ≡ 2
+two : (s : List ℕ) → length s ≤ longestFile → alone (sections s) ≡ refused CutOff → numberIn (readFile s) ≡ 2
 unfolding readFile
-two s h e = rw (le-ltb 65536 (length s) h, e)
+two s h e = rw (le-ltb longestFile (length s) h, e)
 
 pub conditions : (s : List ℕ) → Conditions s
 conditions s =

@@ -10,6 +10,7 @@ use Rattle.refusals.specs.declared.Verdict.the-variants.{Sound}
 use Rattle.refusals.specs.Result.{accepted}
 use Rattle.tie_rules.specs.declared.tie_rule.TieRule.{TieRule}
 use Rattle.tie_rules.specs.declared.tie_rule.TieRule.the-variants.{UlpRelative, FgbioCompat}
+use Rattle.string_set.specs.Readers.{longestFile}
 use Rattle.column_file.specs.declared.settings.Settings.{Settings}
 use Rattle.column_file.specs.Format.{Observation}
 use Rattle.column_file.specs.Reading.{columnsVerdict, File, readFile}
@@ -63,7 +64,7 @@ isByte x = ltb x 256
 -- s is the file that says f: at most 65,536 bytes, with no quality of 255
 pub record InFormat (s : List ℕ) (f : File) : Type 0 where
   pub bytes : fileBytes f ≡ s
-  pub size : length s ≤ 65536
+  pub size : length s ≤ longestFile
   pub qualities : columnsVerdict (f .columns) ≡ Sound
 
 -- bytes are accepted, with what they say, exactly where they have the format

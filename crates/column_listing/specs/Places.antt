@@ -1,4 +1,4 @@
--- The text of a file's bytes and the places of its parts.
+-- As it is run; `text-is` (column_listing/proofs/Texts) joins it to `linesOf`: the text of a file's bytes and the places of its parts.
 use Prim.Native.Nat.{ℕ}
 use mathlib.Core.Bool.{Bool}
 use mathlib.Core.List.{List}

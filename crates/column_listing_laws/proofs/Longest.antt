@@ -10,7 +10,7 @@ use Rattle.refusals.specs.declared.Refusal.{Refusal}
 use Rattle.refusals.specs.declared.Verdict.{Verdict}
 use Rattle.refusals.specs.declared.Verdict.the-variants.{Sound, Refused}
 use Rattle.refusals.specs.Result.{Result, refused, accepted, andThen, judged}
-use Rattle.string_set.specs.Readers.{Taken, taken, short, next, byte, front, many, alone}
+use Rattle.string_set.specs.Readers.{Taken, taken, short, next, byte, front, many, alone, longestFile}
 use Rattle.string_set.specs.StringSet.{string, stringSet, readSet}
 use Rattle.simple_umi.specs.declared.caller.SimpleConsensusCaller.{SimpleConsensusCaller}
 use Rattle.simple_umi.specs.Strings.{firstOf}
@@ -18,7 +18,7 @@ use Rattle.simple_umi.specs.Verdicts.{consensusVerdict}
 use Rattle.simple_umi.specs.Consensus.{Found, defaultCaller, found, consensusOf}
 use Rattle.simple_umi_laws.proofs.AnswerLaws.{answered, no-refusal}
 use Rattle.column_file.specs.Reading.{File, readFile}
-use Rattle.column_file.specs.Places.{columnsSize}
+use Rattle.column_file.specs.Places.{headSize, columnsSize}
 use Rattle.listing_lines.specs.Lines.{textOf, refusalLine}
 use Rattle.column_listing.specs.Listing.{linesOf, listed, printed, listingOf}
 use Rattle.column_listing.proofs.Files.{two-each, columns-inside, file-size, strings-there}
@@ -77,7 +77,7 @@ first-alone m (taken l (x ∷ r)) h = tt
 
 first-read : (s : List ℕ) → Read (length s) (readSet s)
 unfolding readSet
-first-read s = choice (Read (length s)) (ltb 65536 (length s)) _ _ (λ h. tt) (λ h. first-alone (length s) (stringSet s) (first-set s))
+first-read s = choice (Read (length s)) (ltb longestFile (length s)) _ _ (λ h. tt) (λ h. first-alone (length s) (stringSet s) (first-set s))
 
 -- ---- the consensus is as long as the first string
 
@@ -100,9 +100,9 @@ by-refusal r = (omega arith, omega (arith, refusal-length r))
 
 module _ (s : List ℕ) where
   pub consensus-length : (f : File) (u : Found) → readFile s ≡ accepted f → consensusOf defaultCaller (f .strings) ≡ accepted u
-      → columnsSize (f .columns) + length (u .text) ≤ 65536
+      → columnsSize (f .columns) + length (u .text) ≤ longestFile
   consensus-length f u e k =
-      let at = 6 + columnsSize (f .columns) in
+      let at = headSize + columnsSize (f .columns) in
       let first : length (firstOf (f .strings)) ≤ length (drop at s) = subst (Read (length (drop at s))) (strings-there s f e) (first-read (drop at s)) in
       omega (
         arith,

@@ -4,7 +4,7 @@ use mathlib.Core.Bool.{Bool, _&&_}
 use mathlib.Core.List.{List, [], _∷_}
 use lib.Ieee.{nan, neg}
 use lib.Ieee.Scale.{finite}
-use Rattle.float.specs.Ops.{bits, plusZero, one, plusInfinity}
+use Rattle.float.specs.Ops.{plusZero, one, two, plusInfinity}
 use Rattle.float.specs.Claims.{same}
 use Rattle.words.specs.Claims.{everyFrom}
 use Rattle.elementary.specs.Exp.{powerOfTwoOf, expOf}
@@ -75,7 +75,7 @@ named =
     ∷ same (lnOnePlusOf plusInfinity) plusInfinity
     ∷ same (lnOnePlusOf (neg plusInfinity)) nan
     ∷ same (lnOnePlusOf (neg one)) (neg plusInfinity)
-    ∷ same (lnOnePlusOf (bits 0xc000_0000_0000_0000)) nan
+    ∷ same (lnOnePlusOf (neg two)) nan
     ∷ same (expMinusOneOf nan) nan
     ∷ same (expMinusOneOf plusZero) plusZero
     ∷ same (expMinusOneOf (neg plusZero)) (neg plusZero)

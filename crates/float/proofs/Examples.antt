@@ -3,17 +3,22 @@ use mathlib.Core.Bool.{Bool, not}
 use mathlib.Core.List.{List, [], _∷_}
 use Prim.Native.Nat.{_-_, _^_}
 use lib.Dec.{T, eqb}
-use lib.Ieee.{nan, neg, div, lt, isNan, ofBits, toBits}
+use lib.Ieee.{nan, neg, div, lt, isNan, ofBits, toBits, ofInt}
 use lib.Ieee.Scale.{finite}
 use Rattle.float.specs.Claims.{same}
 use Rattle.words.specs.Claims.{all}
-use Rattle.float.specs.Ops.{bits, plusZero, one, plusInfinity}
+use Rattle.float.specs.Ops.{_⊘_, bits, whole, plusZero, one, half, two, three, epsilon, plusInfinity}
 use Rattle.float.specs.Methods.{absOf, maxOf, betweenOf, floorOf}
 
--- of abs, max, between, floor_to_u64 and is_finite, in turn
+-- of the constants by the numbers that they are, and of abs, max, between, floor_to_u64 and is_finite, in turn
 abbrev examples : List Bool
 examples =
-    same (absOf (neg plusZero)) plusZero
+    same one (whole 1)
+    ∷ same half (one ⊘ whole 2)
+    ∷ same two (whole 2)
+    ∷ same three (whole 3)
+    ∷ same epsilon (one ⊘ whole (2 ^ 52))
+    ∷ same (absOf (neg plusZero)) plusZero
     ∷ same (absOf nan) nan
     ∷ same (absOf (neg plusInfinity)) plusInfinity
     ∷ same (absOf (neg one)) one
@@ -44,5 +49,5 @@ examples =
 
 -- all of them hold
 pub corners : T (all examples)
-unfolding neg div lt isNan ofBits toBits same absOf maxOf betweenOf floorOf
+unfolding neg div lt isNan ofBits toBits ofInt same absOf maxOf betweenOf floorOf
 corners = tt

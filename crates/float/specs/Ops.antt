@@ -38,6 +38,22 @@ plusZero = bits 0
 abbrev pub one : Float
 one = bits 0x3ff0_0000_0000_0000
 
+-- 1/2
+abbrev pub half : Float
+half = bits 0x3fe0_0000_0000_0000
+
+-- 2
+abbrev pub two : Float
+two = bits 0x4000_0000_0000_0000
+
+-- 3
+abbrev pub three : Float
+three = bits 0x4008_0000_0000_0000
+
+-- 2^-52 = 2.220446049250313e-16: 1 is so far below the next f64
+abbrev pub epsilon : Float
+epsilon = bits 0x3cb0_0000_0000_0000
+
 -- +infinity, as 1 / 0 gives it
 abbrev pub plusInfinity : Float
 plusInfinity = one ⊘ plusZero

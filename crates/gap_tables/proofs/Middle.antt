@@ -12,7 +12,7 @@ use lib.Ieee.Bits.{is-true}
 use lib.Ieee.Order.{round-mono}
 use lib.Ieee.Positive.{num, den, den-pos, through}
 use borrow.Author.Tests.{ltb-false}
-use Rattle.float.specs.Ops.{_⊕_, _⊗_, bits}
+use Rattle.float.specs.Ops.{_⊕_, _⊗_, half}
 use Rattle.float.proofs.Order.{le-not-lt, le-le, round-has}
 use Rattle.float.proofs.Sums.{round-held}
 use Rattle.gap_tables.specs.declared.thresholds.Ends.{Ends}
@@ -81,9 +81,6 @@ twice (plus (suc m) (negsuc (suc t)) f) h =
     (fin false (suc m) (negsuc t), same-digits m (negsuc (suc t)) (negsuc t) f (omega arith) (omega arith), rw pow-suc (omega arith))
 
 -- ---- the middle
-abbrev half : Float
-half = bits 0x3fe0_0000_0000_0000
-
 -- a sum and a half are fractions, rounded
 sum-is : {x y : Float} → Plus x → Plus y → x ⊕ y ≡ round binary64 false (num x * den y + num y * den x) (den x * den y)
 unfolding add sum

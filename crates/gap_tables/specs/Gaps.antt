@@ -4,7 +4,7 @@ use mathlib.Core.List.{List, [], _∷_}
 use lib.Dec.{ltb}
 use lib.ListN.{getD}
 use lib.Ieee.{Float, nan, neg}
-use Rattle.float.specs.Ops.{_⊕_, _⊗_, _⊘_, bits, plusZero, one}
+use Rattle.float.specs.Ops.{_⊕_, _⊗_, _⊘_, plusZero, one, three}
 use Rattle.words.specs.Choice.{if_then_else_}
 use Rattle.elementary.specs.Exp.{expOf}
 use Rattle.phred.specs.Phred.{phredToLnErrorProb, lnProbToPhred, lnErrorProbTwoTrials, lnSumExpArray, lnNormalize, lnNot}
@@ -26,7 +26,7 @@ thresholdAt pre level = threshold (unanimousQualityFromGap (phredToLnErrorProb p
 -- the error of a unanimous position by its gap: 3·e^-gap / (1 + 3·e^-gap)
 unfoldable pub consensusError : Float → Float
 consensusError gap =
-    let e = bits 0x4008_0000_0000_0000 ⊗ expOf (neg gap) in
+    let e = three ⊗ expOf (neg gap) in
     e ⊘ (one ⊕ e)
 
 -- the highest quality at a pre-UMI rate

@@ -7,10 +7,10 @@ use lib.Dec.{T, leb}
 use lib.Ieee.{Float, le, eq}
 use lib.Ieee.Scale.{finite}
 use Rattle.gap_tables.specs.declared.thresholds.Ends.{Ends}
-use Rattle.float.specs.Ops.{_⊕_, _⊗_, bits, plusZero, plusInfinity}
+use Rattle.float.specs.Ops.{_⊕_, _⊗_, bits, plusZero, half, plusInfinity}
 use Rattle.words.specs.Choice.{if_then_else_}
 
--- the narrowest gap and the widest
+-- the narrowest gap, 0, and the widest, 256
 abbrev pub gap0 : Float
 gap0 = plusZero
 
@@ -23,7 +23,7 @@ reaches quality level gap = leb level (quality gap)
 
 -- 0.5 · (low + high)
 unfoldable pub middle : Ends → Float
-middle e = bits 0x3fe0_0000_0000_0000 ⊗ (e .low ⊕ e .high)
+middle e = half ⊗ (e .low ⊕ e .high)
 
 -- one halving: the middle becomes the upper end if it reaches the level, and else the lower end
 unfoldable pub halved : (Float → Bool) → Ends → Ends

@@ -26,9 +26,17 @@ abbrev pub repliedOr : Reply → Call → Call
 repliedOr (Replied short) other = short
 repliedOr Deferred other = other
 
--- 16 · 2^-53, the source's headroom by its unit of rounding
+-- 16
+abbrev pub sixteen : Float
+sixteen = bits 0x4030_0000_0000_0000
+
+-- 2^-53 = 1.1102230246251565e-16, the unit of rounding
+abbrev pub unitRoundoff : Float
+unitRoundoff = bits 0x3ca0_0000_0000_0000
+
+-- the source's headroom by its unit of rounding
 abbrev pub headroom : Float
-headroom = bits 0x4030_0000_0000_0000 ⊗ bits 0x3ca0_0000_0000_0000
+headroom = sixteen ⊗ unitRoundoff
 
 -- by how much two calculations of the same logarithm may differ, as a gap: 16 · 2^-53 · (|winner| + |loser|) / c, where the error is at least c
 unfoldable pub unanimousMargin : Float → Float → Float → Float

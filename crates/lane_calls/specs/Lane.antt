@@ -1,4 +1,4 @@
--- The multibase shortcut for the lane that the rule names.
+-- As it is run; `named-reply` (lane_calls/proofs/AddedTests) joins it to `multibaseReply`: the shortcut for the lane that the rule names.
 use Prim.Native.Nat.{ℕ}
 use mathlib.Core.List.{List}
 use lib.Ieee.{Float}

@@ -35,9 +35,13 @@ magnitudeBelow xs m (suc n) = maxOf (magnitudeBelow xs m n) (absOf (lane xs n))
 unfoldable pub finalError : Float → Float → Float
 finalError pre r = lnErrorProbTwoTrials pre (lnOf r ⊖ lnOnePlusOf r)
 
+-- 2^-1022 = 2.2250738585072014e-308, the least positive normal f64
+abbrev pub leastNormal : Float
+leastNormal = bits 0x0010_0000_0000_0000
+
 -- by how much the long calculation may differ from it
 unfoldable pub deltaOf : Float → Float → Float
-deltaOf r magnitude = headroom ⊗ magnitude ⊘ maxOf (lnOnePlusOf r) (bits 0x0010_0000_0000_0000)
+deltaOf r magnitude = headroom ⊗ magnitude ⊘ maxOf (lnOnePlusOf r) leastNormal
 
 -- the quality, where it is the same at delta below and above
 unfoldable pub stableReply : ℕ → Float → Float → Reply

@@ -1,12 +1,12 @@
 // The shortcut where two or more bases were observed.
 ghost use mathlib.Core.Path.{_≡_};
-ghost use Rattle.float.specs.Ops.{_⊖_, _⊗_, _⊘_, bits};
+ghost use Rattle.float.specs.Ops.{_⊖_, _⊗_, _⊘_};
 ghost use Rattle.float.specs.Methods.{maxOf};
 ghost use Rattle.elementary.specs.Ln.{lnOf};
 ghost use Rattle.phred.specs.Phred.{lnErrorProbTwoTrials};
 ghost use Rattle.lane_calls.specs.Calls.{headroom};
 ghost use Rattle.lane_calls.specs.Lane.{replyOfLane};
-ghost use Rattle.lane_calls.specs.Multibase.{restBelow, magnitudeBelow, stableReply, restReply, multibaseReply};
+ghost use Rattle.lane_calls.specs.Multibase.{restBelow, magnitudeBelow, leastNormal, stableReply, restReply, multibaseReply};
 use crate::call::Reply;
 use crate::call::called;
 use crate::margin::UNANIMOUS_MARGIN_HEADROOM;
@@ -56,7 +56,7 @@ fn final_error(pre: LogProbability, r: f64, p: f64) -> LogProbability
 // By how much the long calculation may differ: its rounding at this magnitude, divided by the distance
 // of the base's probability from 1, as the complement's logarithm magnifies it: p.
 fn delta(p: f64, magnitude: f64) -> f64
-    ensures { λ d. ⌜ d ≡ headroom ⊗ magnitude ⊘ maxOf p (bits 0x0010_0000_0000_0000) ⌝ }
+    ensures { λ d. ⌜ d ≡ headroom ⊗ magnitude ⊘ maxOf p leastNormal ⌝ }
 {
     UNANIMOUS_MARGIN_HEADROOM * UNANIMOUS_UNIT_ROUNDOFF * magnitude / float::max(p, MIN_POSITIVE)
 }

@@ -1,4 +1,4 @@
--- The lines by how a column's builder is made, with tables that are given: what the functions that borrow them say.
+-- As it is run; `lines-with` (column_listing/proofs/Texts) joins it to `columnLines`: by how a column's builder is made, with tables that are given.
 use Prim.Native.Nat.{ℕ, _+_}
 use mathlib.Core.Bool.{Bool}
 use mathlib.Core.List.{List, [], _∷_, _++_}

@@ -14,7 +14,7 @@ use Rattle.tie_rules.specs.Lanes.{lanes, noLane, laneOfByte, counted}
 use Rattle.tie_rules.proofs.Lanes.{lane-of-byte}
 use Rattle.base_builder.specs.declared.builder.ConsensusBaseBuilder.{ConsensusBaseBuilder}
 use Rattle.base_builder.specs.Observation.{countOf}
-use Rattle.base_builder.specs.Builder.{total, isFull}
+use Rattle.base_builder.specs.Builder.{total, isFull, fullCount}
 use Rattle.observation_windows.specs.Windows.{windowAt, windowObserved, windowAdded, allAdded}
 
 -- ---- bytes two by two
@@ -38,7 +38,7 @@ few rows b (x ∷ y ∷ s) h = absurd (omega arith)
 -- ---- how many more can be counted
 
 -- one more is counted
-one-more : (ns : List ℕ) (k : ℕ) → k < 4 → total ns < 4294967295 → total (lanes (λ i. countOf (counted ns i) k i)) ≡ total ns + 1
+one-more : (ns : List ℕ) (k : ℕ) → k < 4 → total ns < fullCount → total (lanes (λ i. countOf (counted ns i) k i)) ≡ total ns + 1
 unfolding total lanes countOf
 one-more ns zero h t = omega arith
 one-more ns (suc zero) h t = omega arith
@@ -71,16 +71,16 @@ module _ (rows : List Float) (s : List ℕ) (i : ℕ) (b : ConsensusBaseBuilder)
   ignored h n = sym (all-more h ∙ rw n)
 
   -- with so much room left
-  module _ (left : ℕ) (e : left ≡ 4294967295 - total (b .observations)) where
+  module _ (left : ℕ) (e : left ≡ fullCount - total (b .observations)) where
     -- none
     pub stays : left ≡ 0 → allAdded rows b (drop i s) ≡ b
     unfolding isFull
-    stays z = full-stays rows b (drop i s) (le-leb 4294967295 (total (b .observations)) (omega arith))
+    stays z = full-stays rows b (drop i s) (le-leb fullCount (total (b .observations)) (omega arith))
 
     -- some, and a base
     module _ (n : eqb (laneOfByte (getD s i 0)) noLane ≡ false) (some : left ≡ 0 → ⊥) (after : ConsensusBaseBuilder)
         (o : let k = laneOfByte (getD s i 0) in after ≡ windowObserved rows (windowAt (getD s (i + 1) 0) k) k b) where
-      pub room-less : left - 1 ≡ 4294967295 - total (after .observations)
+      pub room-less : left - 1 ≡ fullCount - total (after .observations)
       unfolding windowObserved
       room-less =
           let l = lane-of-byte (getD s i 0) in
@@ -89,4 +89,4 @@ module _ (rows : List Float) (s : List ℕ) (i : ℕ) (b : ConsensusBaseBuilder)
 
       pub observed : i + 1 < length s → allAdded rows after (drop (i + 2) s) ≡ allAdded rows b (drop i s)
       unfolding windowAdded isFull
-      observed h = rw o (sym (all-more h ∙ rw (n, lt-leb 4294967295 (total (b .observations)) (omega arith))))
+      observed h = rw o (sym (all-more h ∙ rw (n, lt-leb fullCount (total (b .observations)) (omega arith))))

@@ -1,4 +1,4 @@
--- What observations do to a builder by a table of windows.
+-- As it is run; `added-same` (observation_windows/proofs/Laws) joins it to `added`: what observations do to a builder by a table of windows.
 use Prim.Native.Nat.{ℕ, _+_, _*_, _-_, _/_, _%_}
 use mathlib.Core.Bool.{_||_}
 use mathlib.Core.List.{List, [], _∷_}

@@ -5,7 +5,7 @@ ghost use mathlib.Core.Bool.{false, not};
 ghost use Prim.Native.Nat.{_+_, _-_, _<_};
 ghost use lib.Dec.{eqb};
 ghost use Rattle.tie_rules.specs.Lanes.{noLane, laneOfByte};
-ghost use Rattle.base_builder.specs.Builder.{total as totalOf};
+ghost use Rattle.base_builder.specs.Builder.{total as totalOf, fullCount};
 ghost use Rattle.observation_windows.specs.Windows.{windowMoved, windowObserved, allAdded};
 use base_builder::ConsensusBaseBuilder;
 use base_builder::Sum;
@@ -40,13 +40,13 @@ fn lane_of_base(base: u8) -> usize
 
 // How many bases more can be counted.
 fn room(observations: [u32; 4]) -> u64
-    ensures { λ r. ⌜ r ≡ 4294967295 - totalOf observations ⌝ }
+    ensures { λ r. ⌜ r ≡ fullCount - totalOf observations ⌝ }
 {
     let counted = total(observations);
-    if 4294967295 <= counted {
+    if base_builder::FULL_COUNT <= counted {
         return 0;
     }
-    4294967295 - counted
+    base_builder::FULL_COUNT - counted
 }
 
 // Lane i after an observation whose window starts at a place.

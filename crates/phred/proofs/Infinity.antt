@@ -9,48 +9,41 @@ use lib.Dec.{T}
 use lib.ListN.{length, getD, take, drop}
 use lib.Ieee.{Float, nan, binary64, fits, lt, le, eq, neg, div, ofBits, isNan}
 use lib.Ieee.Fits.{add-fits, sub-fits}
-use Rattle.float.specs.Ops.{_⊕_, _⊖_, bits, plusZero}
+use Rattle.float.specs.Ops.{_⊕_, _⊖_, plusZero}
 use Rattle.words.proofs.Cases.{test, clash, choice, both}
 use Rattle.float.proofs.Order.{ne-self, lt-trans, lt-le, le-numbers, not-lt-le}
 use Rattle.float.proofs.Sums.{add-not-below, add-not-minus-infinity}
 use Rattle.elementary.specs.Exp.{expOf}
 use Rattle.elementary.proofs.Signs.{exp-from-0, exp-not-below, ln-one-plus-not-below}
-use Rattle.phred.specs.Phred.{lnZero, log1pexpZero, log1pexpOf, lnSumExpGeneral, lnSumExp, allLnZero, startLane, lnSumExpFold, lnSumExpFrom, lnSumExpArray}
+use Rattle.phred.specs.Phred.{lnZero, log1pexpZero, minus37, plus18, plus33·3, log1pexpOf, lnSumExpGeneral, lnSumExp, allLnZero, startLane, lnSumExpFold, lnSumExpFrom, lnSumExpArray}
 use Rattle.phred.proofs.Start.{start-inside}
 
 -- not below 0
 abbrev Up : Float → Type 0
 Up y = lt y plusZero ≡ false
 
--- 18 and 33.3
-abbrev eighteen : Float
-eighteen = bits 0x4032_0000_0000_0000
-
-abbrev thirtyThree : Float
-thirtyThree = bits 0x4040_a666_6666_6666
-
-above-0 : (lt plusZero eighteen ≡ true) × (lt plusZero thirtyThree ≡ true) × (isNan eighteen ≡ false)
+above-0 : (lt plusZero plus18 ≡ true) × (lt plusZero plus33·3 ≡ true) × (isNan plus18 ≡ false)
 unfolding lt isNan ofBits
 above-0 = (refl, refl, refl)
 
 -- a sum with something from 0 on, of a number above 18
-sum-up : (x z : Float) → T (fits binary64 x) → le x eighteen ≡ false → isNan x ≡ false → Up z → Up (x ⊕ z)
+sum-up : (x z : Float) → T (fits binary64 x) → le x plus18 ≡ false → isNan x ≡ false → Up z → Up (x ⊕ z)
 sum-up x z f h n u =
     test (lt (x ⊕ z) plusZero)
-    (λ t. clash (add-not-below x z f u) (lt-trans (x ⊕ z) plusZero x t (lt-trans plusZero eighteen x (above-0 .0) over)))
+    (λ t. clash (add-not-below x z f u) (lt-trans (x ⊕ z) plusZero x t (lt-trans plusZero plus18 x (above-0 .0) over)))
     (λ t. t)
   where
-    over : lt eighteen x ≡ true
-    over = test (lt eighteen x) (λ t. t) (λ t. clash h (not-lt-le eighteen x (above-0 .2) n t))
+    over : lt plus18 x ≡ true
+    over = test (lt plus18 x) (λ t. t) (λ t. clash h (not-lt-le plus18 x (above-0 .2) n t))
 
 -- ln(1 + exp x) is not below 0
 log1pexp-up : (x : Float) → T (fits binary64 x) → Up (log1pexpOf x)
 unfolding log1pexpOf
 log1pexp-up x f =
-    choice Up (le x (neg (bits 0x4042_8000_0000_0000))) (expOf x) _ (λ t. exp-not-below x)
-    (λ a. choice Up (le x eighteen) _ _ (λ t. ln-one-plus-not-below (expOf x) (exp-from-0 x (ne-self x ∙ le-numbers x eighteen t .0)))
-    (λ b. choice Up (le x thirtyThree) _ x (λ t. sum-up x (expOf (neg x)) f b (le-numbers x thirtyThree t .0) (exp-not-below (neg x)))
-    (λ c. test (lt x plusZero) (λ t. clash c (lt-le x thirtyThree (lt-trans x plusZero thirtyThree t (above-0 .1)))) (λ t. t))))
+    choice Up (le x minus37) (expOf x) _ (λ t. exp-not-below x)
+    (λ a. choice Up (le x plus18) _ _ (λ t. ln-one-plus-not-below (expOf x) (exp-from-0 x (ne-self x ∙ le-numbers x plus18 t .0)))
+    (λ b. choice Up (le x plus33·3) _ x (λ t. sum-up x (expOf (neg x)) f b (le-numbers x plus33·3 t .0) (exp-not-below (neg x)))
+    (λ c. test (lt x plusZero) (λ t. clash c (lt-le x plus33·3 (lt-trans x plusZero plus33·3 t (above-0 .1)))) (λ t. t))))
 
 -- not -infinity
 abbrev Some : Float → Type 0

@@ -1,4 +1,4 @@
--- The sum of four lanes as it is run: the lane to start from is moved to the front as the lanes are met.
+-- As it is run; `four-lanes` (phred/proofs/FourLanes) joins it to `lnSumExpArray`: the lane to start from is moved to the front as the lanes are met.
 use lib.Ieee.{Float, lt}
 use Rattle.float.specs.Ops.{plusInfinity}
 use Rattle.words.specs.Choice.{if_then_else_}

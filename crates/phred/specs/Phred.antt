@@ -5,7 +5,7 @@ use mathlib.Core.Bool.{Bool, true, _&&_}
 use mathlib.Core.List.{List, [], _∷_, _++_}
 use lib.ListN.{getD, take, drop}
 use lib.Ieee.{Float, nan, lt, le, eq, neg, isNan}
-use Rattle.float.specs.Ops.{_⊕_, _⊖_, _⊗_, _⊘_, bits, whole, plusZero, one, plusInfinity}
+use Rattle.float.specs.Ops.{_⊕_, _⊖_, _⊗_, _⊘_, bits, whole, plusZero, one, epsilon, plusInfinity}
 use Rattle.words.specs.Choice.{if_then_else_}
 use Rattle.float.specs.Methods.{absOf, floorOf}
 use Rattle.elementary.specs.Exp.{expOf}
@@ -14,7 +14,7 @@ use Rattle.elementary.specs.Ln.{lnOf}
 use Rattle.elementary.specs.LnOnePlus.{lnOnePlusOf}
 use Rattle.phred.specs.declared.Lowest.{Lowest}
 
--- ln 10, rounded
+-- ln 10 = 2.302585092994046, rounded
 abbrev pub ln10 : Float
 ln10 = bits 0x4002_6bb1_bbb5_5516
 
@@ -22,7 +22,7 @@ ln10 = bits 0x4002_6bb1_bbb5_5516
 abbrev pub ten : Float
 ten = bits 0x4024_0000_0000_0000
 
--- ln 2, rounded
+-- ln 2 = 0.6931471805599453, rounded
 abbrev pub lnTwo : Float
 lnTwo = bits 0x3fe6_2e42_fefa_39ef
 
@@ -30,7 +30,7 @@ lnTwo = bits 0x3fe6_2e42_fefa_39ef
 abbrev pub log1pexpZero : Float
 log1pexpZero = lnTwo
 
--- ln(4/3), rounded
+-- ln(4/3) = 0.2876820724517809, rounded
 abbrev pub lnFourThirds : Float
 lnFourThirds = bits 0x3fd2_6962_1134_db92
 
@@ -64,9 +64,13 @@ phredToLnCorrectProb q = lnOneMinusExp (phredToLnErrorProb q)
 abbrev pub clamped : ℕ → ℕ
 clamped n = max minPhred (min maxPhred n)
 
--- the logarithm of the error at level 93: -93 · ln 10 / 10, rounded
+-- the logarithm of the error at level 93: -93 · ln 10 / 10 = -21.41404136484463, rounded
 abbrev pub maxPhredAsLnError : Float
 maxPhredAsLnError = bits 0xc035_69fe_9d69_32ea
+
+-- 0.001, rounded: what is added before the floor
+abbrev pub thousandth : Float
+thousandth = bits 0x3f50_624d_d2f1_a9fc
 
 -- The level of an error's logarithm, fgbio's rule: 93 where it is below that of level 93, 2 at NaN, and else the floor of -10 · p / ln 10 + 0.001,
 -- held to 2 .. 93.
@@ -74,21 +78,31 @@ unfoldable pub lnProbToPhred : Float → ℕ
 lnProbToPhred p =
     if lt p maxPhredAsLnError then maxPhred
     else if isNan p then minPhred
-    else clamped (floorOf (neg ten ⊗ p ⊘ ln10 ⊕ bits 0x3f50_624d_d2f1_a9fc))
+    else clamped (floorOf (neg ten ⊗ p ⊘ ln10 ⊕ thousandth))
+
+-- where equation (10) passes from one form to the next: -37, 18, and 33.3, rounded
+abbrev pub minus37 : Float
+minus37 = neg (bits 0x4042_8000_0000_0000)
+
+abbrev pub plus18 : Float
+plus18 = bits 0x4032_0000_0000_0000
+
+abbrev pub plus33·3 : Float
+plus33·3 = bits 0x4040_a666_6666_6666
 
 -- ln(1 + exp x), by equation (10): up to -37 exp x, up to 18 by ln(1 + v), up to 33.3 x + exp(-x), and above x
 unfoldable pub log1pexpOf : Float → Float
 log1pexpOf x =
-    if le x (neg (bits 0x4042_8000_0000_0000)) then expOf x
-    else if le x (bits 0x4032_0000_0000_0000) then lnOnePlusOf (expOf x)
-    else if le x (bits 0x4040_a666_6666_6666) then x ⊕ expOf (neg x)
+    if le x minus37 then expOf x
+    else if le x plus18 then lnOnePlusOf (expOf x)
+    else if le x plus33·3 then x ⊕ expOf (neg x)
     else x
 
 -- ln(exp a - exp b): a where exp b is 0, -infinity where the two are within 2^-52, and NaN where b is the larger
 unfoldable pub lnAMinusB : Float → Float → Float
 lnAMinusB a b =
     if eq b lnZero then a
-    else if lt (absOf (a ⊖ b)) (bits 0x3cb0_0000_0000_0000) then lnZero
+    else if lt (absOf (a ⊖ b)) epsilon then lnZero
     else if lt a b then plusZero ⊘ plusZero
     else a ⊕ lnOneMinusExp (b ⊖ a)
 
@@ -106,11 +120,15 @@ lnSumExp a b =
     else if eq a b then a ⊕ log1pexpZero
     else lnSumExpGeneral a b
 
+-- 6: so far above the other, an error's logarithm stands for both
+abbrev pub six : Float
+six = bits 0x4018_0000_0000_0000
+
 -- The logarithm of x + y - 4/3 · x · y, an error in either of two trials, of the logarithms of x and y, the larger first: that one where it is 6 or more
 -- above the other, and else ln(exp(ln(x + y)) - exp(ln(4/3 · x · y))).
 unfoldable pub twoTrials : Float → Float → Float
 twoTrials larger smaller =
-    if le (bits 0x4018_0000_0000_0000) (larger ⊖ smaller) then larger
+    if le six (larger ⊖ smaller) then larger
     else lnAMinusB (lnSumExp larger smaller) (lnFourThirds ⊕ larger ⊕ smaller)
 
 -- the same in either order

@@ -2,7 +2,7 @@
 use Prim.Native.Nat.{ℕ}
 use mathlib.Core.List.{List}
 use lib.Ieee.{Float}
-use Rattle.float.specs.Ops.{_⊖_, bits}
+use Rattle.float.specs.Ops.{_⊖_, three}
 use Rattle.elementary.specs.Ln.{lnOf}
 use Rattle.phred.specs.Phred.{phredToLnErrorProb, lnErrorProbTwoTrials, lnNot}
 use Rattle.rate_tables.specs.declared.adjusted.AdjustedProbabilityTables.{AdjustedProbabilityTables}
@@ -18,7 +18,7 @@ correctAt post q = lnNot (adjustedError post q)
 
 -- of an error to one of the three other bases: a third
 unfoldable pub errorPerAltAt : ℕ → ℕ → Float
-errorPerAltAt post q = adjustedError post q ⊖ lnOf (bits 0x4008_0000_0000_0000)
+errorPerAltAt post q = adjustedError post q ⊖ lnOf three
 
 -- the tables by their parts
 abbrev pub adjustedOf : List Float → List Float → AdjustedProbabilityTables

@@ -17,7 +17,7 @@ use Rattle.refusals.specs.Result.{Result, refused, accepted}
 use Rattle.refusals.proofs.Numbers.{numbered}
 use Rattle.string_set.specs.declared.Reading.{Reading}
 use Rattle.string_set.specs.declared.Reading.the-variants.{Refused, Strings}
-use Rattle.string_set.specs.Readers.{Taken, taken, short, next, many, alone}
+use Rattle.string_set.specs.Readers.{Taken, taken, short, next, many, alone, longestFile}
 use Rattle.string_set.specs.StringSet.{string, stringSet, readSet}
 use Rattle.string_set.specs.Places.{readingOf, readingNumber, readingCount, placesFrom, placesOf, placesAfter}
 use Rattle.string_set.proofs.Readers.{byte-at, byte-end}
@@ -65,7 +65,7 @@ module _ (s : List ℕ) where
   set-lies : SetLies s (readSet s)
   unfolding readSet stringSet
   set-lies =
-      choice (SetLies s) (ltb 65536 (length s)) _ _ (λ t. tt)
+      choice (SetLies s) (ltb longestFile (length s)) _ _ (λ t. tt)
       (λ t. test (ltb 0 (length s))
       (λ k. rw (byte-at s 0 (ltb-true 0 (length s) k)) (alone-lie (many string (byteAt s 0) (drop 1 s)) (many-lie (byteAt s 0) 1)))
       (λ k. rw (byte-end s 0 (ltb-false 0 (length s) k)) tt))

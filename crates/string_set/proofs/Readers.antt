@@ -12,7 +12,7 @@ use Rattle.words.specs.Lists.{byteAt}
 use Rattle.lent_bytes.proofs.Lists.{bytes-from}
 use Rattle.refusals.specs.declared.Refusal.the-variants.{FileTooLong, CutOff}
 use Rattle.refusals.specs.Result.{refused, accepted, andThen}
-use Rattle.string_set.specs.Readers.{Taken, taken, short, next, byte, word, front, many, alone, lone}
+use Rattle.string_set.specs.Readers.{Taken, taken, short, next, byte, word, front, many, alone, lone, longestFile}
 
 module _ (s : List ℕ) (at : ℕ) where
   pub byte-at : at < length s → byte (drop at s) ≡ taken (byteAt s at) (drop (at + 1) s)
@@ -49,25 +49,25 @@ module _ (s : List ℕ) (at : ℕ) where
 -- a part alone
 module _ {A : Type 0} (one : List ℕ → Taken A) (s : List ℕ) where
   -- over 65,536 bytes
-  pub lone-long : 65536 < length s → lone one s ≡ refused FileTooLong
-  lone-long h = rw (lt-ltb 65536 (length s) h)
+  pub lone-long : longestFile < length s → lone one s ≡ refused FileTooLong
+  lone-long h = rw (lt-ltb longestFile (length s) h)
 
-  module _ (h : length s ≤ 65536) where
+  module _ (h : length s ≤ longestFile) where
     pub lone-fits : lone one s ≡ alone (one s)
-    lone-fits = rw (le-ltb 65536 (length s) h)
+    lone-fits = rw (le-ltb longestFile (length s) h)
 
     -- the bytes do not reach
     pub lone-cut : one s ≡ short → lone one s ≡ refused CutOff
-    lone-cut e = rw (le-ltb 65536 (length s) h, e)
+    lone-cut e = rw (le-ltb longestFile (length s) h, e)
 
     module _ (a : A) (at : ℕ) (e : one s ≡ taken a (drop at s)) where
       -- bytes are left
       pub lone-left : at < length s → lone one s ≡ refused CutOff
-      lone-left k = rw (le-ltb 65536 (length s) h, e, bytes-from s at k)
+      lone-left k = rw (le-ltb longestFile (length s) h, e, bytes-from s at k)
 
       -- it is all of them
       pub lone-all : length s ≤ at → lone one s ≡ accepted a
-      lone-all k = rw (le-ltb 65536 (length s) h, e, drop-of-length-le s k)
+      lone-all k = rw (le-ltb longestFile (length s) h, e, drop-of-length-le s k)
 
 -- what follows the last part read decides, whatever is made of that part
 pub alone-next : {A B : Type 0} (f : A → B) (t : Taken A) → alone (next t (λ a r. taken (f a) r)) ≡ andThen (alone t) (λ a. accepted (f a))

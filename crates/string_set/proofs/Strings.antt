@@ -11,7 +11,7 @@ use Rattle.words.specs.Lists.{byteAt}
 use Rattle.refusals.specs.declared.Refusal.the-variants.{FileTooLong, CutOff}
 use Rattle.refusals.specs.Result.{refused}
 use Rattle.string_set.specs.declared.Reading.the-variants.{Strings}
-use Rattle.string_set.specs.Readers.{taken, short, many}
+use Rattle.string_set.specs.Readers.{taken, short, many, longestFile}
 use Rattle.string_set.specs.StringSet.{string, stringSet, readSet}
 use Rattle.string_set.specs.Places.{readingOf}
 use Rattle.string_set.proofs.Readers.{byte-at, byte-end, front-at, front-end, lone-long, lone-cut, lone-left, lone-all, prepend, prepend-none, many-more, many-cut, many-done}
@@ -63,7 +63,7 @@ module _ (s : List ℕ) (n k at : ℕ) (p : Passed s n k at) where
 
 -- a lone set
 module _ (s : List ℕ) where
-  pub too-long : 65536 < length s → readSet s ≡ refused FileTooLong
+  pub too-long : longestFile < length s → readSet s ≡ refused FileTooLong
   unfolding readSet
   too-long h = lone-long stringSet s h
 
@@ -72,7 +72,7 @@ module _ (s : List ℕ) where
   no-count h = lone-cut stringSet s (omega arith) (rw (byte-end s 0 (omega arith)))
 
   -- n strings are announced
-  module _ (n : ℕ) (e : n ≡ byteAt s 0) (fits : length s ≤ 65536) (h : 0 < length s) where
+  module _ (n : ℕ) (e : n ≡ byteAt s 0) (fits : length s ≤ longestFile) (h : 0 < length s) where
     announced : stringSet s ≡ many string n (drop 1 s)
     unfolding stringSet
     announced = rw (byte-at s 0 h, ← e)

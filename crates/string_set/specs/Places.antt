@@ -1,4 +1,4 @@
--- What is read of a set: how many strings, and the places of their length bytes.
+-- As it is run; `placed` (string_set/proofs/Placed) joins it to `readSet`: how many strings, and the places of their length bytes.
 use mathlib.Core.List.{List, [], _∷_, _++_}
 use Prim.Native.Nat.{ℕ, _+_}
 use lib.ListN.{length, drop}

@@ -8,6 +8,9 @@ ghost use Rattle.string_set.specs.Places.{readingOf, readingNumber, read
 use lent_bytes::wide;
 use refusals::Refusal;
 
+// The most bytes that a file, a part of one or a string set may have.
+pub const LONGEST_FILE: usize = 65536;
+
 // Refused, or how many strings there are.
 pub enum Reading {
     Refused(Refusal),
@@ -26,7 +29,7 @@ fn judge(set: &[u8]) -> Reading
     ensures reading { λ r. ⌜ r ≡ readingOf (readSet (now (set .entry))) ⌝ }
     ensures few { λ r. ⌜ readingCount r ≤ 255 ⌝ }
 {
-    if 65536 < set.len() {
+    if LONGEST_FILE < set.len() {
         return Reading::Refused(Refusal::FileTooLong);
     }
     if set.len() == 0 {

@@ -7,7 +7,7 @@ use native.Mathlib.Omega.{arith}
 use lib.Dec.{eqb, ltb}
 use lib.Ieee.{Float, lt}
 use borrow.Author.Tests.{eqb-true, eqb-false}
-use Rattle.float.specs.Ops.{_⊖_, bits}
+use Rattle.float.specs.Ops.{_⊖_, epsilon}
 use Rattle.words.proofs.Cases.{test}
 use Rattle.float.proofs.Order.{lt-asym, lt-not-le}
 use Rattle.float.proofs.Turned.{turned}
@@ -16,10 +16,6 @@ use Rattle.tie_rules.specs.declared.tie_rule.TieRule.the-variants.{Fgbio
 use Rattle.tie_rules.specs.Lanes.{lane}
 use Rattle.tie_rules.specs.Ties.{fgbioTie, fgbioTested, tiesWith, untied}
 use Rattle.tie_rules.proofs.Lanes.{below-all}
-
--- 2^-52
-abbrev epsilon : Float
-epsilon = bits 0x3cb0_0000_0000_0000
 
 clear-apart : (i j : ℕ) (m x : Float) → lt epsilon (m ⊖ x) ≡ true → tiesWith FgbioCompat i m j x ≡ false
 unfolding tiesWith fgbioTested fgbioTie

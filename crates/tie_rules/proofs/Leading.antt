@@ -8,7 +8,7 @@ use native.Mathlib.Omega.{arith}
 use lib.Dec.{ltb}
 use lib.Ieee.{Float, nan, inf, fin, lt, le, eq, neg, add, sub, div, isNan, ofBits}
 use borrow.Author.Tests.{lt-ltb, ltb-true}
-use Rattle.float.specs.Ops.{_⊖_, bits}
+use Rattle.float.specs.Ops.{_⊖_, epsilon}
 use Rattle.words.specs.Choice.{if_then_else_}
 use Rattle.float.specs.Methods.{absOf}
 use Rattle.words.proofs.Cases.{test, clash, choice}
@@ -57,7 +57,7 @@ or-true true = refl
 or-true false = refl
 
 -- no value is near NaN
-nan-apart : (x y : Float) → isNan x ≡ true → le (y ⊖ x) (bits 0x3cb0_0000_0000_0000) ≡ false
+nan-apart : (x y : Float) → isNan x ≡ true → le (y ⊖ x) epsilon ≡ false
 unfolding isNan le lt eq sub add neg ofBits
 nan-apart nan nan h = refl
 nan-apart nan (inf s) h = refl
@@ -128,9 +128,9 @@ module _ (xs : List Float) where
     unfolding fgbioStep
     over a b = rw (a, b, or-true (not (r .seen)))
 
-    kept : isNan x ≡ false → r .seen ≡ true → lt (r .best) x ≡ false → fgbioStep r n x ≡ (if le (r .best ⊖ x) (bits 0x3cb0_0000_0000_0000) then cancelled r else r)
+    kept : isNan x ≡ false → r .seen ≡ true → lt (r .best) x ≡ false → fgbioStep r n x ≡ (if le (r .best ⊖ x) epsilon then cancelled r else r)
     unfolding fgbioStep fgbioTie
-    kept a s b = rw (a, s, b, turned x (r .best) (bits 0x3cb0_0000_0000_0000) b)
+    kept a s b = rw (a, s, b, turned x (r .best) epsilon b)
 
     stays : Some r (leads r) → Some (fgbioStep r n x) (leadStep (leads r) n x)
     unfolding leadStep
@@ -140,7 +140,7 @@ module _ (xs : List Float) where
         (λ a. test (lt (r .best) x)
         (λ b. rw (over a b, b) (taken-some (lt-trans lnZero (r .best) x (k .above) b)))
         (λ b. rw (kept a (k .seen) b, b)
-        (test (le (r .best ⊖ x) (bits 0x3cb0_0000_0000_0000))
+        (test (le (r .best ⊖ x) epsilon)
         (λ t. rw t (record { same = refl; seen = k .seen; above = k .above; place = λ h. absurd (omega arith) }))
         (λ t. rw t k))))
 

@@ -1,7 +1,7 @@
--- fgbio's rule as it is run: a scan that begins at -infinity.
+-- As it is run; `lead-is` (tie_rules/proofs/Leading) joins it to `notMinusInfinity` of `fgbioUniqueMaxIndex`: a scan that begins at -infinity.
 use Prim.Native.Nat.{ℕ}
 use lib.Ieee.{Float, lt, le}
-use Rattle.float.specs.Ops.{_⊖_, bits}
+use Rattle.float.specs.Ops.{_⊖_, epsilon}
 use Rattle.words.specs.Choice.{if_then_else_}
 use Rattle.tie_rules.specs.declared.lead.Lead.{Lead}
 use Rattle.tie_rules.specs.Lanes.{noLane}
@@ -10,5 +10,5 @@ use Rattle.tie_rules.specs.Lanes.{noLane}
 unfoldable pub leadStep : Lead → ℕ → Float → Lead
 leadStep l k x =
     if lt (l .best) x then record { best = x; at = k }
-    else if le (l .best ⊖ x) (bits 0x3cb0_0000_0000_0000) then record { best = l .best; at = noLane }
+    else if le (l .best ⊖ x) epsilon then record { best = l .best; at = noLane }
     else l

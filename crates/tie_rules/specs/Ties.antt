@@ -5,7 +5,7 @@ use mathlib.Core.List.{List}
 use lib.Dec.{leb, ltb, eqb}
 use lib.Ieee.{Float, binary64, toBits, lt, le, eq, isNan}
 use lib.Ieee.Scale.{finite}
-use Rattle.float.specs.Ops.{_⊖_, bits, plusZero}
+use Rattle.float.specs.Ops.{_⊖_, plusZero, epsilon}
 use Rattle.words.specs.Choice.{if_then_else_}
 use Rattle.float.specs.Methods.{absOf}
 use Rattle.phred.specs.Phred.{lnZero}
@@ -25,7 +25,7 @@ ruleOf n =
 
 -- under FgbioCompat: within 2^-52
 unfoldable pub fgbioTie : Float → Float → Bool
-fgbioTie x y = le (absOf (x ⊖ y)) (bits 0x3cb0_0000_0000_0000)
+fgbioTie x y = le (absOf (x ⊖ y)) epsilon
 
 -- bit patterns of the same sign, within 4 of each other
 unfoldable pub nearPatterns : ℕ → ℕ → Bool

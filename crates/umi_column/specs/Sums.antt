@@ -1,4 +1,4 @@
--- Kahan's sums of a column's four lanes, with no counts.
+-- As it is run; `sums-byte` (umi_column/proofs/SumLaws) joins it to `namedByte`: Kahan's sums of a column's four lanes, with no counts.
 use Prim.Native.Nat.{ℕ, _+_, _-_}
 use mathlib.Core.List.{List, [], _∷_}
 use lib.Dec.{ltb}

@@ -14,7 +14,7 @@ use lib.Ieee.Exact.{HasValue}
 use lib.Ieee.Positive.{den, den-pos}
 use lib.Ieee.Scale.{finite}
 use borrow.Author.Tests.{ltb-false}
-use Rattle.float.specs.Ops.{_⊖_, bits, plusZero, one}
+use Rattle.float.specs.Ops.{_⊖_, plusZero, one, two, epsilon}
 use Rattle.words.proofs.Cases.{test, clash, both}
 use Rattle.float.proofs.Order.{lt-trans, lt-le, le-le, le-numbers, le-not-lt, not-lt-le}
 use Rattle.float.proofs.Gap.{gap-lt}
@@ -24,22 +24,12 @@ use Rattle.tie_rules.specs.Ties.{uniqueMaxIndexWith}
 use Rattle.tie_rules.proofs.Clear.{all-clear}
 use Rattle.base_builder_laws.proofs.Named.{named}
 use Rattle.umi_column.specs.Sums.{noSums, windowOf, sumAt, summedAll}
-use Rattle.umi_column.specs.Counts.{countOf, apart, Leads}
+use Rattle.umi_column.specs.Counts.{countOf, minus32, apart, Leads}
 use Rattle.umi_count_laws.specs.Named.{NamedByCounts}
 use Rattle.umi_count_laws.proofs.Rounding.{near}
 use Rattle.umi_count_laws.proofs.Places.{Fine, At, over, under, unit, base, less, lt-is, lt-places, le-places}
 use Rattle.umi_count_laws.proofs.KahanStep.{Stands}
 use Rattle.umi_count_laws.proofs.Sums.{fall, fall-most, falls, summed}
-
--- 2^-52, 2 and -32
-abbrev epsilon : Float
-epsilon = bits 0x3cb0_0000_0000_0000
-
-abbrev two : Float
-two = bits 0x4000_0000_0000_0000
-
-abbrev lowest : Float
-lowest = neg (bits 0x4040_0000_0000_0000)
 
 -- ---- the places of the two logarithms
 -- from -32 to 0: g below 0
@@ -51,18 +41,18 @@ module _ (e : ℕ) (fine : Fine e) where
   unit-some = omega (arith, fine .some)
 
   -- what the two are compared with
-  lowest-value : HasValue lowest true (32 * unit e) (unit e)
+  minus32-value : HasValue minus32 true (32 * unit e) (unit e)
   unfolding neg ofBits
-  lowest-value = (refl, omega arith)
+  minus32-value = (refl, omega arith)
 
   zero-value : HasValue plusZero false 0 (unit e)
   unfolding ofBits
   zero-value = (refl, omega arith)
 
-  placed : (x : Float) (s : Bool) (a : ℕ) → HasValue x s a (unit e) → le lowest x ≡ true → le x plusZero ≡ true → Placed e x
+  placed : (x : Float) (s : Bool) (a : ℕ) → HasValue x s a (unit e) → le minus32 x ≡ true → le x plusZero ≡ true → Placed e x
   placed x true a v h k =
       test (ltb (32 * unit e) a)
-      (λ t. clash (le-not-lt lowest x h) (lt-is (unit e) unit-some x lowest true true a (32 * unit e) v lowest-value ∙ t))
+      (λ t. clash (le-not-lt minus32 x h) (lt-is (unit e) unit-some x minus32 true true a (32 * unit e) v minus32-value ∙ t))
       (λ t. let l = ltb-false (32 * unit e) a t in (base e - a, a, under a v (omega arith), omega arith, omega arith))
   placed x false a v h k =
       test (ltb 0 a)
@@ -154,7 +144,7 @@ held-is : (m h w d : ℕ) → m * (4096 * (h * (w * d))) ≡ m * (4096 * (h * w)
 held-is m h w d = omega arith
 
 -- what lies from -32 to 0 is finite, and a whole number of units
-held : (x : Float) → le lowest x ≡ true → le x plusZero ≡ true → (w : ℕ) → (s : Bool) × (a : ℕ) × HasValue x s a (unit (2 ^ 1062 * (w * den x)))
+held : (x : Float) → le minus32 x ≡ true → le x plusZero ≡ true → (w : ℕ) → (s : Bool) × (a : ℕ) × HasValue x s a (unit (2 ^ 1062 * (w * den x)))
 unfolding le lt eq neg ofBits
 held nan h k w = clash refl h
 held (inf true) h k w = clash refl h
@@ -177,12 +167,12 @@ far-lt z h = test (lt epsilon z) (λ t. t) (λ t. clash two-above (le-le two z e
 pub named-by-counts : NamedByCounts
 unfolding apart
 named-by-counts correct error h column short i inside leads =
-    let (ab, c) = both (le lowest error && le correct plusZero) (le two (correct ⊖ error)) h in
-    let (a, b) = both (le lowest error) (le correct plusZero) ab in
+    let (ab, c) = both (le minus32 error && le correct plusZero) (le two (correct ⊖ error)) h in
+    let (a, b) = both (le minus32 error) (le correct plusZero) ab in
     let l = lt-le error correct (gap-lt correct error (far-lt (correct ⊖ error) c)) in
     let e = 2 ^ 1062 * (den error * den correct) in
     let fine = fine-scale (den error * den correct) (mul-pos (den-pos error) (den-pos correct)) in
-    let low = le-le lowest error correct a l in
+    let low = le-le minus32 error correct a l in
     let high = le-le error correct plusZero l b in
     let (s, x, sx) = held correct low b (den error) in
     let (t, y, ty) = held error a high (den correct) in

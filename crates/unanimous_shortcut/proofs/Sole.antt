@@ -1,4 +1,4 @@
--- The lane that alone was observed, by sums; and the shortcut for it. Assumes nothing.
+-- The lane that alone was observed, by sums; and the shortcut where there is none. Assumes nothing.
 use mathlib.Core.Path.{_≡_, refl}
 use mathlib.Core.Bool.{Bool, true, false, not, _&&_, _||_}
 use mathlib.Core.List.{List}
@@ -14,8 +14,8 @@ use Rattle.tie_rules.specs.declared.tie_rule.TieRule.{TieRule}
 use Rattle.tie_rules.specs.Lanes.{counted, noLane}
 use Rattle.words.specs.Claims.{allBelow}
 use Rattle.lane_calls.specs.declared.call.Reply.the-variants.{Deferred}
-use Rattle.unanimous_shortcut.specs.Sole.{seenOf, replyForLane}
-use Rattle.unanimous_shortcut.specs.Unanimous.{firstSeen, soleLane, unanimousReply}
+use Rattle.unanimous_shortcut.specs.Sole.{seenOf}
+use Rattle.unanimous_shortcut.specs.Unanimous.{firstSeen, soleLane, replyForLane, unanimousReply}
 
 -- by the sums of four numbers that are 1 where a base was observed
 abbrev pub bySums : ℕ → ℕ → ℕ → ℕ → ℕ
@@ -64,13 +64,9 @@ sole-by-sums ns =
     rw (unseen (counted ns 0), unseen (counted ns 1), unseen (counted ns 2), unseen (counted ns 3))
     (same (ltb 0 (counted ns 0)) (ltb 0 (counted ns 1)) (ltb 0 (counted ns 2)) (ltb 0 (counted ns 3)))
 
--- ---- the shortcut, once that lane is found
+-- ---- where no lane is alone the shortcut defers
 
-module _ (t : UnanimousGapTables) (xs : List Float) (ns : List ℕ) (rule : TieRule) (i : ℕ) (e : i ≡ soleLane ns) where
-  pub sole-reply : unanimousReply t xs ns rule ≡ replyForLane t xs i rule
-  unfolding unanimousReply replyForLane
-  sole-reply = rw (← e)
-
-  pub no-sole-reply : noLane ≤ i → unanimousReply t xs ns rule ≡ Deferred
-  unfolding replyForLane
-  no-sole-reply h = rw (sole-reply, le-ltb i noLane h)
+pub no-sole-reply : (t : UnanimousGapTables) (xs : List Float) (ns : List ℕ) (rule : TieRule) (i : ℕ) → i ≡ soleLane ns → noLane ≤ i
+    → unanimousReply t xs ns rule ≡ Deferred
+unfolding unanimousReply replyForLane
+no-sole-reply t xs ns rule i e h = rw (← e, le-ltb i noLane h)

@@ -5,7 +5,7 @@ use mathlib.Core.List.{List}
 use lib.Dec.{ltb, eqb}
 use lib.Ieee.{Float, lt, le}
 use lib.Ieee.Scale.{finite}
-use Rattle.float.specs.Ops.{_⊖_, _⊗_, bits, one}
+use Rattle.float.specs.Ops.{_⊖_, _⊗_, one, half, epsilon}
 use Rattle.words.specs.Choice.{if_then_else_}
 use Rattle.phred.specs.Phred.{lnTwo}
 use Rattle.gap_tables.specs.declared.gaps.UnanimousGapTables.{UnanimousGapTables}
@@ -36,7 +36,7 @@ soleLane ns =
 
 -- the winner leads the loser by a finite gap above 2^-52
 unfoldable pub leads : Float → Float → Bool
-leads winner loser = finite (winner ⊖ loser) && lt (bits 0x3cb0_0000_0000_0000) (winner ⊖ loser)
+leads winner loser = finite (winner ⊖ loser) && lt epsilon (winner ⊖ loser)
 
 -- the tables by their parts
 abbrev pub tablesOf : List Float → List Float → ℕ → UnanimousGapTables
@@ -46,7 +46,7 @@ tablesOf thresholds cerr cap = record { thresholds = thresholds; «cerr_min» = 
 abbrev pub clearsCap : UnanimousGapTables → Float → Float → Bool
 clearsCap t winner loser =
     le lnTwo (winner ⊖ loser ⊖ entry (t .thresholds) (t .cap))
-    && lt (unanimousMargin winner loser one) (bits 0x3fe0_0000_0000_0000 ⊗ entry (t .«cerr_min») (t .cap - 1))
+    && lt (unanimousMargin winner loser one) (half ⊗ entry (t .«cerr_min») (t .cap - 1))
 
 -- then the quality is the cap
 unfoldable pub capReply : UnanimousGapTables → ℕ → Float → Float → Reply
@@ -82,11 +82,14 @@ gapReply t i winner loser =
     else if le (entry (t .thresholds) (t .cap)) (winner ⊖ loser) then capReply t i winner loser
     else bracketReply t i winner loser (partitionPoint (t .thresholds) (winner ⊖ loser))
 
--- The shortcut: one lane alone was observed, leads the next lane, is finite, and no other lane ties with it as the rule tests it.
-unfoldable pub unanimousReply : UnanimousGapTables → List Float → List ℕ → TieRule → Reply
-unanimousReply t xs ns rule =
-    let i = soleLane ns in
+-- where lane i alone was observed: it leads the next lane, is finite, and no other lane ties with it as the rule tests it
+unfoldable pub replyForLane : UnanimousGapTables → List Float → ℕ → TieRule → Reply
+replyForLane t xs i rule =
     let winner = lane xs i in
     let loser = lane xs ((i + 1) % 4) in
     if ltb i noLane && (leads winner loser && (finite winner && untied rule xs i winner)) then gapReply t i winner loser
     else Deferred
+
+-- the shortcut: for the lane that alone was observed
+unfoldable pub unanimousReply : UnanimousGapTables → List Float → List ℕ → TieRule → Reply
+unanimousReply t xs ns rule = replyForLane t xs (soleLane ns) rule

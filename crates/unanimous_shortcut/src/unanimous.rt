@@ -2,8 +2,8 @@
 ghost use mathlib.Core.Path.{_≡_};
 ghost use Prim.Native.Nat.{_≤_};
 ghost use Rattle.lane_calls.specs.Calls.{outside as outsideOf};
-ghost use Rattle.unanimous_shortcut.specs.Sole.{seenOf, replyForLane};
-ghost use Rattle.unanimous_shortcut.specs.Unanimous.{soleLane, leads as leadsOf, tablesOf, capReply, bracketReply, gapReply, unanimousReply};
+ghost use Rattle.unanimous_shortcut.specs.Sole.{seenOf};
+ghost use Rattle.unanimous_shortcut.specs.Unanimous.{soleLane, leads as leadsOf, tablesOf, capReply, bracketReply, gapReply, replyForLane, unanimousReply};
 use crate::search::partition_point;
 use lane_calls::Reply;
 use lane_calls::called;

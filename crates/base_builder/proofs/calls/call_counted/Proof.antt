@@ -1,6 +1,7 @@
 -- `call_counted`: what the shortcut replies for the one lane that was observed, and else the call of the lanes. Assumes nothing.
 use borrow.Author.Needs.{needs}
-use Rattle.unanimous_shortcut.proofs.Sole.{sole-reply, no-sole-reply}
+use Rattle.unanimous_shortcut.specs.Unanimous.{unanimousReply}
+use Rattle.unanimous_shortcut.proofs.Sole.{no-sole-reply}
 use Rattle.base_builder.proofs.calls.call_counted.Statement.{statement}
 use Rattle.base_builder.proofs.calls.call_counted.Tie as tie
 
@@ -8,14 +9,16 @@ returns : tie.Need-returns
 returns c = rw (no-sole-reply _ _ _ _ _ (c .before .before .sole-lane .ensures) (c .before .if1 .taken)) (c .call-lanes .ensures)
 
 returns-2 : tie.Need-returns-2
+unfolding unanimousReply
 returns-2 c =
     let o = c .before .before .before in
-    rw (sole-reply _ _ _ _ _ (o .before .before .sole-lane .ensures), ← o .reply-for-lane .ensures, c .before .short .given .1)
+    rw (← o .before .before .sole-lane .ensures, ← o .reply-for-lane .ensures, c .before .short .given .1)
 
 returns-3 : tie.Need-returns-3
+unfolding unanimousReply
 returns-3 c =
     let o = c .before .before .before in
-    rw (sole-reply _ _ _ _ _ (o .before .before .sole-lane .ensures), ← o .reply-for-lane .ensures, c .before .enum-told .given .1) (c .call-lanes2 .ensures)
+    rw (← o .before .before .sole-lane .ensures, ← o .reply-for-lane .ensures, c .before .enum-told .given .1) (c .call-lanes2 .ensures)
 
 pub call-counted-spec : {M : Type 1} → statement M
 call-counted-spec =

@@ -7,7 +7,7 @@ use native.Mathlib.Omega.{arith}
 use borrow.Author.Needs.{needs}
 use borrow.Author.Tests.{not-true, not-false}
 use lib.ListN.{length, getD, drop}
-use Rattle.base_builder.specs.Builder.{total}
+use Rattle.base_builder.specs.Builder.{total, fullCount}
 use Rattle.tie_rules.specs.Lanes.{laneOfByte}
 use Rattle.observation_windows.specs.Windows.{windowAt, windowObserved, allAdded}
 use Rattle.observation_windows.proofs.Turns.{all-done, ignored, stays, room-less, observed}
@@ -17,7 +17,7 @@ use Rattle.observation_windows.proofs.adding.add_observations.Tie as ti
 abbrev Inv-loop : tie.InvT-loop
 Inv-loop observations rows left₀ after₀ i₀ left after i =
     (i ≤ length observations)
-    × (left ≡ 4294967295 - total (after .observations))
+    × (left ≡ fullCount - total (after .observations))
     × (allAdded rows after (drop i observations) ≡ allAdded rows after₀ observations)
 
 abbrev μ-loop : tie.MeasureT-loop

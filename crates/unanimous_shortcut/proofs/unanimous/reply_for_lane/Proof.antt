@@ -1,7 +1,7 @@
 -- `reply_for_lane`: each way through the code is a way of the definition. Assumes nothing.
 use borrow.Author.Tests.{not-true, not-false, lt-ltb, le-ltb}
 use borrow.Author.Needs.{needs}
-use Rattle.unanimous_shortcut.specs.Sole.{replyForLane}
+use Rattle.unanimous_shortcut.specs.Unanimous.{replyForLane}
 use Rattle.unanimous_shortcut.proofs.unanimous.reply_for_lane.Statement.{statement}
 use Rattle.unanimous_shortcut.proofs.unanimous.reply_for_lane.Tie as tie
 
