@@ -2,16 +2,16 @@
 use native.Mathlib.Omega.{arith}
 use mathlib.Core.Path.{_≡_, refl, sym, _∙_, ap}
 use Prim.Native.Nat.{ℕ, _+_, _-_, _%_, _^_, _≤_, _<_}
-use native.Mathlib.Nat.{add-zero, mod-eq-of-lt}
 use lib.ListN.{length, drop, getD}
 use Rattle.unanimous_shortcut.specs.Unanimous.{tablesOf}
 use Rattle.rate_tables.specs.Adjusted.{adjustedOf}
 use Rattle.export_scripts.specs.Script.{items}
 use Rattle.export_timing.specs.Times.{amounts}
-use Rattle.export_timing.proofs.Amounts.{amountBy, turn, turned, wrapped}
+use Rattle.export_timing.proofs.Sums.{wrapped, all-added}
+use Rattle.export_timing.proofs.ScriptAmounts.{amountBy, turn, turned}
 use borrow.Author.Needs.{needs}
-use Rattle.export_timing.proofs.timing.add_run.Statement.{statement}
-use Rattle.export_timing.proofs.timing.add_run.Tie as tie
+use Rattle.export_timing.proofs.scripts.add_run.Statement.{statement}
+use Rattle.export_timing.proofs.scripts.add_run.Tie as tie
 
 abbrev Inv-loop : tie.InvT-loop
 Inv-loop sum script correct error-per-alt thresholds cerr-min cap builder₀ total₀ i₀ builder total i =
@@ -51,8 +51,7 @@ returns c =
     let a = c .before .before .before .args in
     let t = adjustedOf (a .correct .now) (a .error-per-alt .now) in
     let g = tablesOf (a .thresholds .now) (a .cerr-min .now) (a .cap) in
-    let z = turned t g (a .script .now) (l .i) (l .builder) (omega arith) in
-    sym (mod-eq-of-lt (l .inv .2)) ∙ ap (λ (k : ℕ). k % 2 ^ 64) (sym (add-zero (l .total))) ∙ ap (λ (k : ℕ). (l .total + k) % 2 ^ 64) (sym z) ∙ l .inv .1
+    all-added (l .total) _ _ (2 ^ 64) (l .inv .2) (turned t g (a .script .now) (l .i) (l .builder) (omega arith)) (l .inv .1)
 
 pub add-run-spec : {M : Type 1} → statement M
 add-run-spec =

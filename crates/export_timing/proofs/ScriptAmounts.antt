@@ -1,9 +1,7 @@
--- What one item adds, and then the others; sums in 64 bits. Assumes nothing.
-use mathlib.Core.Path.{_≡_, refl, sym, _∙_, ap}
+-- What one item of a script adds, and then the others. Assumes nothing.
+use mathlib.Core.Path.{_≡_, refl}
 use mathlib.Core.List.{List}
-use Prim.Native.Nat.{ℕ, _+_, _*_, _%_, _≤_, _<_}
-use native.Mathlib.Nat.{mod-add-mod, add-assoc, suc-mul}
-use native.Mathlib.Numerals.{add-one}
+use Prim.Native.Nat.{ℕ, _+_, _≤_, _<_}
 use borrow.Author.Tests.{ltb-true, ltb-false}
 use lib.Dec.{ltb, eqb}
 use lib.ListN.{length, getD, drop}
@@ -14,7 +12,8 @@ use Rattle.gap_tables.specs.declared.gaps.UnanimousGapTables.{UnanimousGapTable
 use Rattle.base_builder.specs.declared.builder.ConsensusBaseBuilder.{ConsensusBaseBuilder}
 use Rattle.base_builder.specs.Calls.{callOf, callFullOf}
 use Rattle.export_scripts.specs.Script.{Item, itemOf, items}
-use Rattle.export_timing.specs.Times.{stepped, amountOf, amountAt, amounts}
+use Rattle.export_timing.specs.Amounts.{amountOf}
+use Rattle.export_timing.specs.Times.{stepped, amountAt, amounts}
 use Rattle.export_scripts.proofs.Items.{items-more, items-done, a-question, an-event}
 
 -- what a kind adds
@@ -40,11 +39,3 @@ module _ (t : AdjustedProbabilityTables) (g : UnanimousGapTables) (s : List ℕ)
   pub turned : length s ≤ i + 2 → amounts t g (items (drop i s)) b ≡ 0
   unfolding amounts
   turned h = rw (items-done s i h)
-
--- a sum that is held to a modulus at each step
-pub wrapped : (a x r m : ℕ) → ((a + x) % m + r) % m ≡ (a + (x + r)) % m
-wrapped a x r m = mod-add-mod (a + x) m r ∙ ap (λ (k : ℕ). k % m) (add-assoc a x r)
-
--- one run more
-pub once-more : (n w m : ℕ) → (n * w % m + w) % m ≡ (n + 1) * w % m
-once-more n w m = mod-add-mod (n * w) m w ∙ ap (λ (k : ℕ). k % m) (sym (suc-mul n w) ∙ ap (λ (k : ℕ). k * w) (sym (add-one n)))

@@ -1,9 +1,10 @@
 -- `times_accepted`: all rounds with the windows and tables of the file's rates, from a new builder at its settings. Assumes nothing.
 use Rattle.column_file.specs.Places.{columnsAt}
-use Rattle.column_calls.proofs.Tables.{builders-with, amounts-with}
+use Rattle.column_calls.proofs.Tables.{calls-with}
+use Rattle.export_timing.proofs.ColumnAmounts.{amounts-with}
 use borrow.Author.Needs.{needs}
-use Rattle.column_calls.proofs.timing.times_accepted.Statement.{statement}
-use Rattle.column_calls.proofs.timing.times_accepted.Tie as tie
+use Rattle.export_timing.proofs.columns.times_accepted.Statement.{statement}
+use Rattle.export_timing.proofs.columns.times_accepted.Tie as tie
 
 returns : tie.Need-returns
 returns c =
@@ -15,7 +16,7 @@ returns c =
     let cs = columnsAt (a .file .now) (p .columns) (p .count) in
     rw (
       ← amounts-with (p .settings) cs,
-      ← builders-with (p .settings),
+      ← calls-with (p .settings),
       ← at-gaps .before .compute .ensures,
       ← at-windows .windows .ensures,
       ← at-gaps .build-unanimous-gap-tables .ensures,

@@ -3,8 +3,8 @@ use mathlib.Core.Path.{sym, _∙_}
 use borrow.Author.Tests.{lt-leb, le-leb, not-true, not-false}
 use Rattle.export_timing.specs.Times.{timesOf}
 use borrow.Author.Needs.{needs}
-use Rattle.export_timing.proofs.timing.times.Statement.{statement}
-use Rattle.export_timing.proofs.timing.times.Tie as tie
+use Rattle.export_timing.proofs.scripts.times.Statement.{statement}
+use Rattle.export_timing.proofs.scripts.times.Tie as tie
 
 returns : tie.Need-returns
 unfolding timesOf

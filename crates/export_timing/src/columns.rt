@@ -1,35 +1,20 @@
 // The columns of a file called many times, for timing.
 ghost use mathlib.Core.Path.{_≡_};
-ghost use Prim.Native.Nat.{_+_, _*_, _%_, _^_, _<_};
+ghost use Prim.Native.Nat.{_+_, _*_, _%_, _^_};
 ghost use Rattle.unanimous_shortcut.specs.Unanimous.{tablesOf};
 ghost use Rattle.column_file.specs.Places.{columnsAt};
-ghost use Rattle.column_calls.specs.Times.{amountOf, amounts, callsOf};
-ghost use Rattle.column_calls.specs.Tables.{builderWith, amountsWith};
-use crate::columns::start;
+ghost use Rattle.column_calls.specs.Tables.{columnCallWith};
+ghost use Rattle.export_timing.specs.Columns.{columnAmounts, callsOf, amountsWith};
+use crate::amounts::amount;
 use base_builder::ConsensusBaseBuilder;
-use base_builder::call_with;
+use column_calls::call_column;
+use column_calls::start;
 use column_file::ColumnPlace;
 use column_file::Places;
 use column_file::Reading;
 use column_file::column_at;
-use lane_calls::Call;
-use observation_windows::add_observations;
 use observation_windows::windows;
 use rate_tables::AdjustedProbabilityTables;
-
-fn wide(n: u8) -> u64
-    ensures { λ r. ⌜ r ≡ n ⌝ }
-    ensures { λ r. ⌜ r < 256 ⌝ }
-{
-    n as u64
-}
-
-fn amount(call: Call) -> u64
-    ensures { λ r. ⌜ r ≡ amountOf call ⌝ }
-{
-    let qual = call.qual;
-    wide(call.base) + wide(qual.0)
-}
 
 // All columns once, added to a sum: as each round takes the sum of those before it, none can be left
 // out.
@@ -44,7 +29,7 @@ fn add_round(
     cerr_min: &[f64; 94],
     cap: usize,
 ) -> u64
-    ensures { λ r. ⌜ r ≡ (sum + amountsWith (builderWith (now (rows .entry)) start) (tablesOf (now (thresholds .entry)) (now («cerr_min» .entry)) cap) (columnsAt (now (file .entry)) from count)) % 2 ^ 64 ⌝ }
+    ensures { λ r. ⌜ r ≡ (sum + amountsWith (columnCallWith (now (rows .entry)) start (tablesOf (now (thresholds .entry)) (now («cerr_min» .entry)) cap)) (columnsAt (now (file .entry)) from count)) % 2 ^ 64 ⌝ }
 {
     let mut total = sum;
     let mut place = from;
@@ -55,9 +40,8 @@ fn add_round(
             return total;
         };
         let end = first + 2 * n;
-        let builder = add_observations(start, &file[first..end], rows);
-        let more = amount(call_with(builder, thresholds, cerr_min, cap));
-        total = std::num::wrapping_add_u64(total, more);
+        let column = call_column(&file[first..end], start, rows, thresholds, cerr_min, cap);
+        total = std::num::wrapping_add_u64(total, amount(column.call));
         place = end;
         left -= 1;
     }
@@ -75,7 +59,7 @@ fn add_rounds(
     cerr_min: &[f64; 94],
     cap: usize,
 ) -> u64
-    ensures { λ r. ⌜ r ≡ times * amountsWith (builderWith (now (rows .entry)) start) (tablesOf (now (thresholds .entry)) (now («cerr_min» .entry)) cap) (columnsAt (now (file .entry)) from count) % 2 ^ 64 ⌝ }
+    ensures { λ r. ⌜ r ≡ times * amountsWith (columnCallWith (now (rows .entry)) start (tablesOf (now (thresholds .entry)) (now («cerr_min» .entry)) cap)) (columnsAt (now (file .entry)) from count) % 2 ^ 64 ⌝ }
 {
     let mut sum = 0;
     let mut n = 0;
@@ -97,7 +81,7 @@ fn add_rounds(
 }
 
 fn times_accepted(file: &[u8], places: Places, times: u32) -> u64
-    ensures { λ r. ⌜ r ≡ times * amounts (places .settings) (columnsAt (now (file .entry)) (places .columns) (places .count)) % 2 ^ 64 ⌝ }
+    ensures { λ r. ⌜ r ≡ times * columnAmounts (places .settings) (columnsAt (now (file .entry)) (places .columns) (places .count)) % 2 ^ 64 ⌝ }
 {
     let settings = places.settings;
     let pre = settings.error_rate_pre_umi;

@@ -5,8 +5,8 @@ use Rattle.export_scripts.specs.Script.{itemOf}
 use Rattle.export_timing.specs.Times.{stepped}
 use Rattle.export_scripts.proofs.Items.{no-arm}
 use borrow.Author.Needs.{needs}
-use Rattle.export_timing.proofs.timing.step.Statement.{statement}
-use Rattle.export_timing.proofs.timing.step.Tie as tie
+use Rattle.export_timing.proofs.scripts.step.Statement.{statement}
+use Rattle.export_timing.proofs.scripts.step.Tie as tie
 
 returns : tie.Need-returns
 unfolding itemOf stepped step

@@ -1,10 +1,11 @@
 -- `calls`: nothing of a refused file, and else all rounds over the columns where the reading puts them. Assumes nothing.
 use mathlib.Core.Path.{sym, _∙_}
 use Rattle.column_file.specs.Reading.{readFile}
-use Rattle.column_calls.proofs.Readings.{read-refused, read-accepted, calls-refused, calls-accepted}
+use Rattle.column_calls.proofs.Readings.{read-refused, read-accepted}
+use Rattle.export_timing.proofs.ColumnAmounts.{calls-refused, calls-accepted}
 use borrow.Author.Needs.{needs}
-use Rattle.column_calls.proofs.timing.calls.Statement.{statement}
-use Rattle.column_calls.proofs.timing.calls.Tie as tie
+use Rattle.export_timing.proofs.columns.calls.Statement.{statement}
+use Rattle.export_timing.proofs.columns.calls.Tie as tie
 
 returns : tie.Need-returns
 returns c =

@@ -4,16 +4,17 @@ use mathlib.Core.Path.{_≡_}
 use Prim.Native.Nat.{_-_, _*_, _%_, _^_, _≤_}
 use Rattle.unanimous_shortcut.specs.Unanimous.{tablesOf}
 use Rattle.column_file.specs.Places.{columnsAt}
-use Rattle.column_calls.specs.Tables.{builderWith, amountsWith}
-use Rattle.column_calls.proofs.Amounts.{once-more}
+use Rattle.column_calls.specs.Tables.{columnCallWith}
+use Rattle.export_timing.specs.Columns.{amountsWith}
+use Rattle.export_timing.proofs.Sums.{once-more}
 use borrow.Author.Needs.{needs}
-use Rattle.column_calls.proofs.timing.add_rounds.Statement.{statement}
-use Rattle.column_calls.proofs.timing.add_rounds.Tie as tie
+use Rattle.export_timing.proofs.columns.add_rounds.Statement.{statement}
+use Rattle.export_timing.proofs.columns.add_rounds.Tie as tie
 
 abbrev Inv-loop : tie.InvT-loop
 Inv-loop times file from count start rows thresholds cerr-min cap sum₀ n₀ sum n =
     (n ≤ times)
-    × (sum ≡ n * amountsWith (builderWith rows start) (tablesOf thresholds cerr-min cap) (columnsAt file from count) % 2 ^ 64)
+    × (sum ≡ n * amountsWith (columnCallWith rows start (tablesOf thresholds cerr-min cap)) (columnsAt file from count) % 2 ^ 64)
 
 abbrev μ-loop : tie.MeasureT-loop
 μ-loop times file from count start rows thresholds cerr-min cap sum₀ n₀ sum n = times - n
@@ -26,7 +27,7 @@ loop-again c =
     let l = c .before .before .loop in
     let a = c .before .before .before .before .args in
     let g = tablesOf (a .thresholds .now) (a .cerr-min .now) (a .cap) in
-    let w = amountsWith (builderWith (a .rows .now) (a .start)) g (columnsAt (a .file .now) (a .from) (a .count)) in
+    let w = amountsWith (columnCallWith (a .rows .now) (a .start) g) (columnsAt (a .file .now) (a .from) (a .count)) in
     (omega arith, rw (c .add-round .ensures, l .inv .1) (once-more (l .n) w (2 ^ 64)))
 
 returns : tie.Need-returns Inv-loop μ-loop

@@ -1,8 +1,8 @@
 -- `amount_at`: an event, the call, or the long calculation. Assumes nothing.
 use borrow.Author.Tests.{lt-ltb, le-ltb, eq-eqb, ne-eqb}
 use borrow.Author.Needs.{needs}
-use Rattle.export_timing.proofs.timing.amount_at.Statement.{statement}
-use Rattle.export_timing.proofs.timing.amount_at.Tie as tie
+use Rattle.export_timing.proofs.scripts.amount_at.Statement.{statement}
+use Rattle.export_timing.proofs.scripts.amount_at.Tie as tie
 
 returns : tie.Need-returns
 returns c = rw (lt-ltb _ _ (c .if1 .taken))

@@ -1,19 +1,20 @@
 // A script that is run many times, for timing: the tables are built once and lent, and no report is
 // written.
 ghost use mathlib.Core.Path.{_≡_};
-ghost use Prim.Native.Nat.{_+_, _*_, _%_, _^_, _<_};
+ghost use Prim.Native.Nat.{_+_, _*_, _%_, _^_};
 ghost use lib.Dec.{ltb, eqb};
 ghost use Rattle.words.specs.Choice.{if_then_else_};
 ghost use Rattle.unanimous_shortcut.specs.Unanimous.{tablesOf};
 ghost use Rattle.base_builder.specs.Calls.{callOf, callFullOf};
 ghost use Rattle.rate_tables.specs.Adjusted.{adjustedOf};
 ghost use Rattle.export_scripts.specs.Script.{itemOf, items};
-ghost use Rattle.export_timing.specs.Times.{stepped, amountOf, amounts, timesOf};
+ghost use Rattle.export_timing.specs.Amounts.{amountOf};
+ghost use Rattle.export_timing.specs.Times.{stepped, amounts, timesOf};
+use crate::amounts::amount;
 use base_builder::ConsensusBaseBuilder;
 use base_builder::add_with;
 use base_builder::call_with;
 use export_scripts::is_script;
-use lane_calls::Call;
 use phred::PhredScore;
 use rate_tables::AdjustedProbabilityTables;
 use tie_rules::rule_of;
@@ -35,20 +36,6 @@ fn step(
         2 => builder.set_tie_rule(rule_of(a)),
         _ => builder,
     }
-}
-
-fn wide(n: u8) -> u64
-    ensures { λ r. ⌜ r ≡ n ⌝ }
-    ensures { λ r. ⌜ r < 256 ⌝ }
-{
-    n as u64
-}
-
-fn amount(call: Call) -> u64
-    ensures { λ r. ⌜ r ≡ amountOf call ⌝ }
-{
-    let qual = call.qual;
-    wide(call.base) + wide(qual.0)
 }
 
 // What an item of this kind adds.

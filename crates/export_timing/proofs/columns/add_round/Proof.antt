@@ -4,21 +4,21 @@ use mathlib.Core.Path.{_≡_, refl, sym, _∙_, ap}
 use Prim.Native.Nat.{ℕ, _+_, _-_, _*_, _%_, _^_, _≤_, _<_}
 use lib.ListN.{length, take, drop}
 use Rattle.unanimous_shortcut.specs.Unanimous.{tablesOf}
-use Rattle.base_builder.specs.Calls.{callOf}
-use Rattle.observation_windows.specs.Windows.{allAdded}
 use Rattle.column_file.specs.Places.{columnsAt}
 use Rattle.column_file.proofs.ColumnWalk.{column-inside}
-use Rattle.column_calls.specs.Times.{amountOf}
-use Rattle.column_calls.specs.Tables.{builderWith, amountsWith}
-use Rattle.column_calls.proofs.Amounts.{turn, turned-past, turned, wrapped, all-added}
+use Rattle.column_calls.specs.Tables.{observationsIn, columnCallWith}
+use Rattle.export_timing.specs.Amounts.{amountOf}
+use Rattle.export_timing.specs.Columns.{amountsWith}
+use Rattle.export_timing.proofs.Sums.{wrapped, all-added}
+use Rattle.export_timing.proofs.ColumnAmounts.{turn, turned-past, turned}
 use borrow.Author.Needs.{needs}
-use Rattle.column_calls.proofs.timing.add_round.Statement.{statement}
-use Rattle.column_calls.proofs.timing.add_round.Tie as tie
+use Rattle.export_timing.proofs.columns.add_round.Statement.{statement}
+use Rattle.export_timing.proofs.columns.add_round.Tie as tie
 
 abbrev Inv-loop : tie.InvT-loop
 Inv-loop sum file from count start rows thresholds cerr-min cap total₀ place₀ left₀ total place left =
-    let g = tablesOf thresholds cerr-min cap in
-    ((total + amountsWith (builderWith rows start) g (columnsAt file place left)) % 2 ^ 64 ≡ (sum + amountsWith (builderWith rows start) g (columnsAt file from count)) % 2 ^ 64)
+    let called = columnCallWith rows start (tablesOf thresholds cerr-min cap) in
+    ((total + amountsWith called (columnsAt file place left)) % 2 ^ 64 ≡ (sum + amountsWith called (columnsAt file from count)) % 2 ^ 64)
     × (total < 2 ^ 64)
 
 abbrev μ-loop : tie.MeasureT-loop
@@ -41,9 +41,9 @@ returns : tie.Need-returns Inv-loop μ-loop
 returns c =
     let l = c .before .before .before .before .loop in
     let a = c .before .before .before .before .before .before .args in
-    let g = tablesOf (a .thresholds .now) (a .cerr-min .now) (a .cap) in
+    let called = columnCallWith (a .rows .now) (a .start) (tablesOf (a .thresholds .now) (a .cerr-min .now) (a .cap)) in
     let e = sym (c .before .before .column-at .ensures .0) ∙ c .enum-told .given .1 in
-    all-added (l .total) _ _ (2 ^ 64) (l .inv .1) (turned-past (a .rows .now) g (a .start) (a .file .now) (l .place) (l .left) e) (l .inv .0)
+    all-added (l .total) _ _ (2 ^ 64) (l .inv .1) (turned-past called (a .file .now) (l .place) (l .left) e) (l .inv .0)
 
 mul-end : tie.Need-mul-end Inv-loop μ-loop
 mul-end c = omega (arith, inside c)
@@ -51,25 +51,25 @@ mul-end c = omega (arith, inside c)
 add-end : tie.Need-add-end Inv-loop μ-loop
 add-end c = omega (arith, inside c)
 
-part-add-observations-end : tie.Need-part-add-observations-end Inv-loop μ-loop
-part-add-observations-end c = inside c
+part-call-column-end : tie.Need-part-call-column-end Inv-loop μ-loop
+part-call-column-end c = inside c
 
 loop-again : tie.Need-loop-again Inv-loop μ-loop
 loop-again c =
-    let at-built = c .before .before .before in
-    let at-next = at-built .before .before .before in
+    let called-at = c .before .before in
+    let at-next = called-at .before .before .before in
     let at-loop = at-next .before .before .before .before in
     let l = at-loop .loop in
     let a = at-loop .before .before .args in
     let n = at-next .next .given in
     let s = a .file .now in
-    let g = tablesOf (a .thresholds .now) (a .cerr-min .now) (a .cap) in
+    let called = columnCallWith (a .rows .now) (a .start) (tablesOf (a .thresholds .now) (a .cerr-min .now) (a .cap)) in
     let e = sym (at-next .before .before .column-at .ensures .0) ∙ n .1 in
-    let more = amountOf (callOf g (allAdded (a .rows .now) (a .start) (take (n .0 .0 + 2 * n .0 .1 .0 - n .0 .0) (drop (n .0 .0) s)))) in (
-      rw (c .wrapping-add-u64 .ensures, c .before .amount .ensures, c .before .before .call-with .ensures, at-built .add-observations .ensures)
+    let more = amountOf (called (observationsIn (take (n .0 .0 + 2 * n .0 .1 .0 - n .0 .0) (drop (n .0 .0) s))) .call) in (
+      rw (c .wrapping-add-u64 .ensures, c .before .amount .ensures, called-at .call-column .ensures)
           (wrapped (l .total) more _ (2 ^ 64)
           ∙ ap (λ (k : ℕ). (l .total + k) % 2 ^ 64)
-          (sym (turn (a .rows .now) g (a .start) s (l .place) (l .left) (n .0 .0) (n .0 .1 .0) (at-next .before .before .before .loop-test .taken) e)) ∙ l .inv .0),
+          (sym (turn called s (l .place) (l .left) (n .0 .0) (n .0 .1 .0) (at-next .before .before .before .loop-test .taken) e)) ∙ l .inv .0),
       omega (arith, c .wrapping-add-u64 .ensures),
     )
 
@@ -77,8 +77,8 @@ returns-2 : tie.Need-returns-2 Inv-loop μ-loop
 returns-2 c =
     let l = c .before .loop in
     let a = c .before .before .before .args in
-    let g = tablesOf (a .thresholds .now) (a .cerr-min .now) (a .cap) in
-    all-added (l .total) _ _ (2 ^ 64) (l .inv .1) (turned (a .rows .now) g (a .start) (a .file .now) (l .place) (l .left) (omega arith)) (l .inv .0)
+    let called = columnCallWith (a .rows .now) (a .start) (tablesOf (a .thresholds .now) (a .cerr-min .now) (a .cap)) in
+    all-added (l .total) _ _ (2 ^ 64) (l .inv .1) (turned called (a .file .now) (l .place) (l .left) (omega arith)) (l .inv .0)
 
 pub add-round-spec : {M : Type 1} → statement M
 add-round-spec =
@@ -92,8 +92,8 @@ add-round-spec =
     mul-end
     add-end
     (λ c. search needs) (λ c. search needs)
-    part-add-observations-end
-    (λ c κs. search needs) (λ c κs. search needs) (λ c κs. search needs) (λ c κs. search needs)
+    part-call-column-end
+    (λ c κs. search needs) (λ c κs. search needs) (λ c κs. search needs)
     (λ c. search needs) (λ c. search needs)
     loop-again
     returns-2)

@@ -6,10 +6,10 @@ use Rattle.unanimous_shortcut.specs.Unanimous.{tablesOf}
 use Rattle.rate_tables.specs.Adjusted.{adjustedOf}
 use Rattle.export_scripts.specs.Script.{items}
 use Rattle.export_timing.specs.Times.{amounts}
-use Rattle.export_timing.proofs.Amounts.{once-more}
+use Rattle.export_timing.proofs.Sums.{once-more}
 use borrow.Author.Needs.{needs}
-use Rattle.export_timing.proofs.timing.add_runs.Statement.{statement}
-use Rattle.export_timing.proofs.timing.add_runs.Tie as tie
+use Rattle.export_timing.proofs.scripts.add_runs.Statement.{statement}
+use Rattle.export_timing.proofs.scripts.add_runs.Tie as tie
 
 abbrev Inv-loop : tie.InvT-loop
 Inv-loop times start script correct error-per-alt thresholds cerr-min cap sum₀ n₀ sum n = (n ≤ times) × (sum ≡ n * amounts (adjustedOf correct error-per-alt) (tablesOf thresholds cerr-min cap) (items script) start % 2 ^ 64)
