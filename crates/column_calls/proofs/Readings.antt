@@ -1,7 +1,7 @@
--- A file by what `read` says of it: its settings, its columns, and what their calls add up to. Assumes nothing.
+-- A file by what `read` says of it: its settings and its columns. Assumes nothing.
 use mathlib.Core.Path.{_≡_, refl, sym, _∙_, ap, subst}
 use mathlib.Core.List.{List}
-use Prim.Native.Nat.{ℕ, _*_, _%_, _^_}
+use Prim.Native.Nat.{ℕ}
 use Rattle.refusals.specs.declared.Refusal.{Refusal}
 use Rattle.refusals.specs.Result.{Result, refused, accepted}
 use Rattle.column_file.specs.declared.file.Places.{Places}
@@ -10,7 +10,6 @@ use Rattle.column_file.specs.declared.file.Reading.the-variants.{Refused, Accep
 use Rattle.column_file.specs.Reading.{File, readFile}
 use Rattle.column_file.specs.Places.{columnsAt, placesOf, readingOf}
 use Rattle.column_file.proofs.FileLayout.{layout}
-use Rattle.column_calls.specs.Times.{amounts, callsOf}
 
 -- a file was accepted, and these are its places
 pub record FileAt (t : Result File) (p : Places) : Type 0 where
@@ -39,13 +38,3 @@ module _ (t : Result File) (g : Reading) (e : g ≡ readingOf t) where
 -- the columns are where the places say
 pub columns-read : (s : List ℕ) (p : Places) (a : FileAt (readFile s) p) → columnsAt s (p .columns) (p .count) ≡ a .file .columns
 columns-read s p a = ap (λ (q : Places). columnsAt s (q .columns) (q .count)) (a .places) ∙ layout s (a .file) (a .is) .columns
-
--- ---- the calls of a file
-module _ (s : List ℕ) (times : ℕ) where
-  pub calls-refused : (r : Refusal) → readFile s ≡ refused r → callsOf s times ≡ 0
-  unfolding callsOf
-  calls-refused r e = rw e
-
-  pub calls-accepted : (p : Places) → FileAt (readFile s) p → callsOf s times ≡ times * amounts (p .settings) (columnsAt s (p .columns) (p .count)) % 2 ^ 64
-  unfolding callsOf
-  calls-accepted p a = rw (a .is, columns-read s p a, a .places)

@@ -1,5 +1,7 @@
--- The builder of a column of a file, and its call.
+-- The builder of a column of a file, its call and its counts.
+use Prim.Native.Nat.{ℕ}
 use mathlib.Core.List.{List, map}
+use lib.ListN.{length}
 use Rattle.gap_tables.specs.Gaps.{gapTables}
 use Rattle.lane_calls.specs.declared.call.Call.{Call}
 use Rattle.base_builder.specs.declared.builder.ConsensusBaseBuilder.{ConsensusBaseBuilder}
@@ -8,6 +10,7 @@ use Rattle.base_builder.specs.Calls.{callOf}
 use Rattle.base_builder.specs.History.{Event, add, after}
 use Rattle.column_file.specs.declared.settings.Settings.{Settings}
 use Rattle.column_file.specs.Format.{Observation}
+use Rattle.column_calls.specs.declared.columns.ColumnCall.{ColumnCall}
 
 -- an observation as what happens to a builder
 abbrev pub eventOf : Observation → Event
@@ -24,3 +27,11 @@ builderOf g c = after (g .«error_rate_pre_umi» .0) (g .«error_rate_post_umi»
 -- its call
 unfoldable pub columnCall : Settings → List Observation → Call
 columnCall g c = callOf (gapTables (g .«error_rate_pre_umi» .0)) (builderOf g c)
+
+-- its call, and the counts of A, C, G and T
+unfoldable pub calledColumn : Settings → List Observation → ColumnCall
+calledColumn g c = record { call = columnCall g c; counts = builderOf g c .observations }
+
+-- its depth: how many observations the file has of it, also those that are ignored (SCOPE 6.1)
+abbrev pub depthOf : List Observation → ℕ
+depthOf c = length c

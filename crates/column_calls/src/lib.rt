@@ -1,7 +1,7 @@
-// The builder of each column of a file, and its call. The windows and the gap tables of the file's rates
-// are built once and lent.
+// From a column's bytes to its call and counts. The windows and the gap tables of the file's rates are
+// built once and lent.
 mod columns;
-mod timing;
 
+pub use columns::ColumnCall;
+pub use columns::call_column;
 pub use columns::start;
-pub use timing::calls;

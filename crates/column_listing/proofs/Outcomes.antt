@@ -34,8 +34,8 @@ use Rattle.column_file.specs.declared.file.Places.{Places}
 use Rattle.column_file.specs.Reading.{readFile}
 use Rattle.column_file.specs.Places.{columnsAt}
 use Rattle.column_calls.specs.Columns.{startOf}
-use Rattle.column_calls.specs.Tables.{builderWith}
-use Rattle.column_calls.proofs.Tables.{builders-with}
+use Rattle.column_calls.specs.Tables.{columnCallWith}
+use Rattle.column_calls.proofs.Tables.{calls-with}
 use Rattle.column_calls.proofs.Readings.{FileAt}
 use Rattle.listing_lines.specs.Lines.{refusalLine}
 use Rattle.listing_lines.specs.Tables.{textWith}
@@ -55,9 +55,9 @@ use Rattle.column_listing.proofs.Texts.{text-is}
 pub with-tables : (p : Places) (s text : List ℕ) (flag : Bool) (t : AdjustedProbabilityTables) (rows : List Float) (g : UnanimousGapTables) (b : ConsensusBaseBuilder)
     → t ≡ adjustedTables (p .settings .«error_rate_post_umi» .0) → rows ≡ windowsOf (t .correct) (t .«error_per_alt»)
     → g ≡ gapTables (p .settings .«error_rate_pre_umi» .0) → b ≡ startOf (p .settings)
-    → textWith (builderWith rows b) g (columnsAt s (p .columns) (p .count)) text flag ≡ placesText p s text flag
+    → textWith (columnCallWith rows b g) (columnsAt s (p .columns) (p .count)) text flag ≡ placesText p s text flag
 unfolding placesText
-with-tables p s text flag t rows g b e w k h = rw (h, w, e, builders-with (p .settings), k)
+with-tables p s text flag t rows g b e w k h = rw (h, w, e, k, calls-with (p .settings))
 
 -- with the same string and flag
 pub same-text : (p : Places) (s : List ℕ) {l m : List ℕ} {f g : Bool} → l ≡ m → f ≡ g → placesText p s l f ≡ placesText p s m g

@@ -2,24 +2,23 @@
 use mathlib.Core.Path.{_≡_, refl, sym}
 use mathlib.Core.List.{List, [], _∷_, _++_, append-nil, append-assoc}
 use Prim.Native.Nat.{ℕ, _+_}
-use Rattle.gap_tables.specs.Gaps.{gapTables}
 use Rattle.simple_umi.specs.Consensus.{Found}
 use Rattle.column_file.specs.declared.file.Places.{Places}
 use Rattle.column_file.specs.declared.settings.Settings.{Settings}
 use Rattle.column_file.specs.Format.{Observation}
 use Rattle.column_file.specs.Reading.{File, readFile}
 use Rattle.column_file.specs.Places.{columnsAt}
-use Rattle.column_calls.specs.Columns.{builderOf, columnCall}
+use Rattle.column_calls.specs.Columns.{calledColumn}
 use Rattle.column_calls.proofs.Readings.{FileAt, columns-read}
 use Rattle.listing_lines.specs.Lines.{header, columnLine, columnLines, umiLine, textOf}
-use Rattle.listing_lines.specs.Tables.{lineWith, linesWith, textWith}
+use Rattle.listing_lines.specs.Tables.{linesWith, textWith}
 use Rattle.column_listing.specs.Listing.{linesOf}
 use Rattle.column_listing.specs.Places.{placesText}
 
--- by the builders and the gap tables of the settings
+-- by what is called of each column at the settings
 module _ (g : Settings) where
-  pub lines-with : (i : ℕ) (cs : List (List Observation)) → linesWith (builderOf g) (gapTables (g .«error_rate_pre_umi» .0)) i cs ≡ columnLines i g cs
-  unfolding linesWith lineWith columnLines columnLine columnCall
+  pub lines-with : (i : ℕ) (cs : List (List Observation)) → linesWith (calledColumn g) i cs ≡ columnLines i g cs
+  unfolding linesWith columnLines columnLine calledColumn
   lines-with i [] = refl
   lines-with i (c ∷ cs) = rw (lines-with (i + 1) cs)
 

@@ -2,14 +2,11 @@
 use Prim.Native.Nat.{ℕ}
 use mathlib.Core.Bool.{Bool}
 use mathlib.Core.List.{List}
-use Rattle.gap_tables.specs.Gaps.{gapTables}
 use Rattle.column_file.specs.declared.file.Places.{Places}
 use Rattle.column_file.specs.Places.{columnsAt}
-use Rattle.column_calls.specs.Columns.{builderOf}
+use Rattle.column_calls.specs.Columns.{calledColumn}
 use Rattle.listing_lines.specs.Tables.{textWith}
 
--- by the builders and the gap tables of its settings
+-- by what is called of each column at its settings
 unfoldable pub placesText : Places → List ℕ → List ℕ → Bool → List ℕ
-placesText p s text hadErrors =
-    let g = p .settings in
-    textWith (builderOf g) (gapTables (g .«error_rate_pre_umi» .0)) (columnsAt s (p .columns) (p .count)) text hadErrors
+placesText p s text hadErrors = textWith (calledColumn (p .settings)) (columnsAt s (p .columns) (p .count)) text hadErrors

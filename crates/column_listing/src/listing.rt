@@ -9,7 +9,7 @@ ghost use Rattle.refusals.specs.Result.{accepted};
 ghost use Rattle.unanimous_shortcut.specs.Unanimous.{tablesOf};
 ghost use Rattle.column_file.specs.Reading.{readFile};
 ghost use Rattle.column_file.specs.Places.{columnsAt, readingOf};
-ghost use Rattle.column_calls.specs.Tables.{builderWith};
+ghost use Rattle.column_calls.specs.Tables.{columnCallWith};
 ghost use Rattle.column_listing.specs.Listing.{listed, listingOf};
 ghost use Rattle.column_listing.specs.Answers.{listedIn, listingAnswer, listingNumber, listingBuffer, outcomeOf};
 ghost use Rattle.column_listing.specs.Places.{placesText};
@@ -55,8 +55,8 @@ fn fits(
     had_errors: bool,
 ) -> bool
     requires { ⌜ count < 65536 ⌝ }
-    requires { ⌜ length (textWith (builderWith (now rows) start) (tablesOf (now thresholds) (now «cerr_min») cap) (columnsAt (now file) from count) (now text) «had_errors») ≤ 300 + 70 * count ⌝ }
-    ensures { λ r. ⌜ r ≡ leb (length (textWith (builderWith (now (rows .entry)) start) (tablesOf (now (thresholds .entry)) (now («cerr_min» .entry)) cap) (columnsAt (now (file .entry)) from count) (now (text .entry)) «had_errors»)) room ⌝ }
+    requires { ⌜ length (textWith (columnCallWith (now rows) start (tablesOf (now thresholds) (now «cerr_min») cap)) (columnsAt (now file) from count) (now text) «had_errors») ≤ 300 + 70 * count ⌝ }
+    ensures { λ r. ⌜ r ≡ leb (length (textWith (columnCallWith (now (rows .entry)) start (tablesOf (now (thresholds .entry)) (now («cerr_min» .entry)) cap)) (columnsAt (now (file .entry)) from count) (now (text .entry)) «had_errors»)) room ⌝ }
 {
     if 300 + 70 * count <= room {
         return true;

@@ -1,1 +1,3 @@
-pub mod Amounts
+pub mod Sums
+pub mod ScriptAmounts
+pub mod ColumnAmounts

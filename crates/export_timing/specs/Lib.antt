@@ -1,1 +1,3 @@
+pub mod Amounts
 pub mod Times
+pub mod Columns

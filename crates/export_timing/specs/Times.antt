@@ -8,22 +8,18 @@ use Rattle.rate_tables.specs.declared.adjusted.AdjustedProbabilityTables.{Adjus
 use Rattle.gap_tables.specs.declared.gaps.UnanimousGapTables.{UnanimousGapTables}
 use Rattle.rate_tables.specs.Adjusted.{adjustedTables}
 use Rattle.gap_tables.specs.Gaps.{gapTables}
-use Rattle.lane_calls.specs.declared.call.Call.{Call}
 use Rattle.base_builder.specs.declared.builder.ConsensusBaseBuilder.{ConsensusBaseBuilder}
 use Rattle.base_builder.specs.Builder.{newAt, withTieRule}
 use Rattle.base_builder.specs.Calls.{callFullOf, callOf}
 use Rattle.base_builder.specs.History.{step}
 use Rattle.tie_rules.specs.Ties.{ruleOf}
 use Rattle.export_scripts.specs.Script.{Item, event, question, items, isScript}
+use Rattle.export_timing.specs.Amounts.{amountOf}
 
 -- what an item does to a builder; a question changes nothing
 unfoldable pub stepped : AdjustedProbabilityTables → Item → ConsensusBaseBuilder → ConsensusBaseBuilder
 stepped t (event e) b = step t e b
 stepped t (question kind) b = b
-
--- base and quality of a call together
-abbrev pub amountOf : Call → ℕ
-amountOf c = c .base + c .qual .0
 
 -- what an item adds: question 3 the call's amount, any other the long calculation's
 unfoldable pub amountAt : UnanimousGapTables → Item → ConsensusBaseBuilder → ℕ

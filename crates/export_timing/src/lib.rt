@@ -1,4 +1,7 @@
-// A list of a builder's calls in bytes that is run many times, for timing.
-mod timing;
+// The same run many times, for timing: a list of a builder's calls in bytes, or the columns of a file.
+mod amounts;
+mod columns;
+mod scripts;
 
-pub use timing::times;
+pub use columns::calls;
+pub use scripts::times;

@@ -1,7 +1,7 @@
 // A column file: its listing, or how long its calls take.
 ghost use mathlib.Core.Path.{_≡_};
 ghost use Rattle.lent_bytes.specs.Buffer.{lengthWritten, written};
-ghost use Rattle.column_calls.specs.Times.{callsOf};
+ghost use Rattle.export_timing.specs.Columns.{callsOf};
 ghost use Rattle.column_listing.specs.Listing.{listingOf};
 ghost use Rattle.column_listing.specs.Answers.{listedIn, listingBuffer};
 ghost use Rattle.export_listing.specs.Reply.{listingReply};
@@ -30,5 +30,5 @@ pub extern "C" fn consensus_listing(file: &[u8], out: &mut [u8]) -> u64
 pub extern "C" fn consensus_calls(file: &[u8], times: u32) -> u64
     ensures { λ r. ⌜ r ≡ callsOf (now (file .entry)) times ⌝ }
 {
-    column_calls::calls(file, times)
+    export_timing::calls(file, times)
 }

@@ -3,18 +3,16 @@ use mathlib.Core.Path.{_≡_, refl, sym, _∙_, ap}
 use mathlib.Core.List.{List, [], _∷_, _++_, append-assoc, append-nil}
 use Prim.Native.Nat.{ℕ, _+_, _-_, _*_, _≤_, _<_}
 use lib.ListN.{length, take, drop}
-use lib.Ieee.{Float}
 use Rattle.tie_rules.specs.Lanes.{counted}
-use Rattle.gap_tables.specs.declared.gaps.UnanimousGapTables.{UnanimousGapTables}
 use Rattle.lane_calls.specs.declared.call.Call.{Call}
-use Rattle.base_builder.specs.declared.builder.ConsensusBaseBuilder.{ConsensusBaseBuilder}
-use Rattle.observation_windows.specs.Windows.{allAdded}
 use Rattle.lent_text.specs.Text.{decimal, space, newline}
 use Rattle.column_file.specs.declared.columns.ColumnPlace.the-variants.{At, Past}
+use Rattle.column_file.specs.Format.{Observation}
 use Rattle.column_file.specs.Places.{columnAt, columnsAt}
 use Rattle.column_file.proofs.ColumnWalk.{observations-length, column-inside}
-use Rattle.column_calls.specs.Tables.{builderWith}
-use Rattle.column_calls.proofs.Bytes.{part-bytes}
+use Rattle.column_calls.specs.declared.columns.ColumnCall.{ColumnCall}
+use Rattle.column_calls.specs.Tables.{observationsIn}
+use Rattle.column_calls.proofs.Bytes.{part-observations}
 use Rattle.column_calls.proofs.Walk.{columns-more, columns-past, columns-none}
 use Rattle.listing_lines.specs.Lines.{lineOf, textOf}
 use Rattle.listing_lines.specs.Tables.{lineWith, linesWith}
@@ -43,20 +41,20 @@ line-puts i call depth ns =
 pub column-fits : (s : List ℕ) (at start n : ℕ) → columnAt s at ≡ At start n → start + 2 * n ≤ length s
 column-fits s at start n e = column-inside s at (columnAt s at) refl start n e
 
--- n columns from a place on, numbered from i on, with given windows and tables and a given first builder
-module _ (rows : List Float) (g : UnanimousGapTables) (b : ConsensusBaseBuilder) (s : List ℕ) (at n i : ℕ) where
+-- n columns from a place on, numbered from i on, by what is called of each
+module _ (called : List Observation → ColumnCall) (s : List ℕ) (at n i : ℕ) where
   -- their lines
   abbrev left : List ℕ
-  left = textOf (linesWith (builderWith rows b) g i (columnsAt s at n))
+  left = textOf (linesWith called i (columnsAt s at n))
 
   -- one column more: its line, and those of the columns after it
   pub lines-more : (start k : ℕ) → 0 < n → columnAt s at ≡ At start k
       → left
-      ≡ lineWith g i (allAdded rows b (take (start + 2 * k - start) (drop start s))) k
-      ++ textOf (linesWith (builderWith rows b) g (i + 1) (columnsAt s (start + 2 * k) (n - 1)))
+      ≡ lineWith i (called (observationsIn (take (start + 2 * k - start) (drop start s)))) k
+      ++ textOf (linesWith called (i + 1) (columnsAt s (start + 2 * k) (n - 1)))
   unfolding linesWith
   lines-more start k h e =
-      rw (columns-more s at n start k h e, observations-length s start k, part-bytes s start k (column-fits s at start k e))
+      rw (columns-more s at n start k h e, observations-length s start k, part-observations s start k (column-fits s at start k e))
 
   -- none more: the bytes do not reach
   pub lines-past : columnAt s at ≡ Past → left ≡ []

@@ -2,7 +2,6 @@
 use Prim.Native.Nat.{ℕ, _+_}
 use mathlib.Core.Bool.{Bool, true, false}
 use mathlib.Core.List.{List, [], _∷_, _++_}
-use lib.ListN.{length}
 use Rattle.refusals.specs.declared.Refusal.{Refusal}
 use Rattle.refusals.specs.Refusals.{numberOf}
 use Rattle.lent_text.specs.Text.{letters, decimal, line}
@@ -10,7 +9,7 @@ use Rattle.tie_rules.specs.Lanes.{counted}
 use Rattle.lane_calls.specs.declared.call.Call.{Call}
 use Rattle.column_file.specs.declared.settings.Settings.{Settings}
 use Rattle.column_file.specs.Format.{Observation}
-use Rattle.column_calls.specs.Columns.{builderOf, columnCall}
+use Rattle.column_calls.specs.Columns.{builderOf, columnCall, depthOf}
 
 -- what the fields of a column's line are called
 abbrev pub header : List ℕ
@@ -23,9 +22,9 @@ lineOf i call depth counts =
     decimal i ∷ (call .base ∷ []) ∷ decimal (call .qual .0) ∷ decimal depth
     ∷ decimal (counted counts 0) ∷ decimal (counted counts 1) ∷ decimal (counted counts 2) ∷ decimal (counted counts 3) ∷ [])
 
--- of column number i: its depth is its count in the file
+-- of column number i
 unfoldable pub columnLine : ℕ → Settings → List Observation → List ℕ
-columnLine i g c = lineOf i (columnCall g c) (length c) (builderOf g c .observations)
+columnLine i g c = lineOf i (columnCall g c) (depthOf c) (builderOf g c .observations)
 
 -- of columns, numbered from i on
 unfoldable pub columnLines : ℕ → Settings → List (List Observation) → List (List ℕ)

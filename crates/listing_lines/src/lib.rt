@@ -6,18 +6,17 @@ ghost use Rattle.tie_rules.specs.Lanes.{counted};
 ghost use Rattle.lent_text.specs.Text.{decimal, space};
 ghost use Rattle.lent_text.specs.Printed.{Printed};
 ghost use Rattle.column_file.specs.Places.{columnsAt};
-ghost use Rattle.column_calls.specs.Tables.{builderWith};
-ghost use Rattle.listing_lines.specs.Lines.{lineOf, umiLine, textOf, refusalLine};
-ghost use Rattle.listing_lines.specs.Tables.{linesWith, textWith};
+ghost use Rattle.column_calls.specs.Tables.{columnCallWith};
+ghost use Rattle.listing_lines.specs.Lines.{umiLine, textOf, refusalLine};
+ghost use Rattle.listing_lines.specs.Tables.{lineWith, linesWith, textWith};
 use base_builder::ConsensusBaseBuilder;
-use base_builder::call_with;
+use column_calls::ColumnCall;
+use column_calls::call_column;
 use column_file::ColumnPlace;
 use column_file::column_at;
-use lane_calls::Call;
 use lent_text::put_byte;
 use lent_text::put_bytes;
 use lent_text::put_decimal;
-use observation_windows::add_observations;
 use refusals::Refusal;
 
 fn wide(n: u32) -> u64
@@ -44,16 +43,11 @@ fn put_counts(out: &mut [u8], at: usize, counts: [u32; 4]) -> usize
     put_field(out, g, wide(counts[3]))
 }
 
-fn put_line(
-    out: &mut [u8],
-    at: usize,
-    number: u64,
-    call: Call,
-    depth: u64,
-    counts: [u32; 4],
-) -> usize
-    ensures { λ r. ⌜ Printed (now (out .entry)) at (lineOf number call depth counts) (now (out .exit)) r ⌝ }
+fn put_line(out: &mut [u8], at: usize, number: u64, called: ColumnCall, depth: u64) -> usize
+    ensures { λ r. ⌜ Printed (now (out .entry)) at (lineWith number called depth) (now (out .exit)) r ⌝ }
 {
+    let call = called.call;
+    let counts = called.counts;
     let base = call.base;
     let qual = call.qual;
     let a = put_decimal(out, at, number);
@@ -78,7 +72,7 @@ fn put_lines(
     out: &mut [u8],
     at: usize,
 ) -> usize
-    ensures { λ r. ⌜ Printed (now (out .entry)) at (textOf (linesWith (builderWith (now (rows .entry)) start) (tablesOf (now (thresholds .entry)) (now («cerr_min» .entry)) cap) 1 (columnsAt (now (file .entry)) from count))) (now (out .exit)) r ⌝ }
+    ensures { λ r. ⌜ Printed (now (out .entry)) at (textOf (linesWith (columnCallWith (now (rows .entry)) start (tablesOf (now (thresholds .entry)) (now («cerr_min» .entry)) cap)) 1 (columnsAt (now (file .entry)) from count))) (now (out .exit)) r ⌝ }
 {
     let mut column = from;
     let mut number: usize = 0;
@@ -89,11 +83,9 @@ fn put_lines(
             return place;
         };
         let end = first + 2 * depth;
-        let builder = add_observations(start, &file[first..end], rows);
-        let call = call_with(builder, thresholds, cerr_min, cap);
-        let counts = builder.observations;
+        let called = call_column(&file[first..end], start, rows, thresholds, cerr_min, cap);
         number += 1;
-        place = put_line(out, place, number as u64, call, depth as u64, counts);
+        place = put_line(out, place, number as u64, called, depth as u64);
         column = end;
     }
     place
@@ -124,7 +116,7 @@ pub fn put_text(
     had_errors: bool,
     out: &mut [u8],
 ) -> usize
-    ensures { λ r. ⌜ Printed (now (out .entry)) 0 (textWith (builderWith (now (rows .entry)) start) (tablesOf (now (thresholds .entry)) (now («cerr_min» .entry)) cap) (columnsAt (now (file .entry)) from count) (now (text .entry)) «had_errors») (now (out .exit)) r ⌝ }
+    ensures { λ r. ⌜ Printed (now (out .entry)) 0 (textWith (columnCallWith (now (rows .entry)) start (tablesOf (now (thresholds .entry)) (now («cerr_min» .entry)) cap)) (columnsAt (now (file .entry)) from count) (now (text .entry)) «had_errors») (now (out .exit)) r ⌝ }
 {
     let lines = put_bytes(out, 0, b"column base quality depth A C G T\n");
     let umi = put_lines(

@@ -16,7 +16,7 @@ whole c =
     let base = quality .before .before .before .before .before .before in
     let gap = base .before .before .before .before in
     let number = gap .before .before .before .before in
-    let a = number .before .before .before .before .args in
+    let a = number .before .before .before .before .before .before .args in
     printed-as
     (print-then (number .put-decimal .ensures)
     (print-then (gap .put-byte .ensures)
@@ -24,7 +24,7 @@ whole c =
     (print-then (printed-as (quality .put-field .ensures) (ap field (quality .before .wide .ensures)))
     (print-then (depth .put-field2 .ensures)
     (print-then (counts .put-counts .ensures) (end .put-byte3 .ensures)))))))
-    (line-puts (a .number) (a .call) (a .depth) (a .counts))
+    (line-puts (a .number) (a .called .call) (a .depth) (a .called .counts))
 
 same-length : tie.Need-same-length
 same-length c = printed-length (whole c)

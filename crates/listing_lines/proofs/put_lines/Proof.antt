@@ -5,11 +5,10 @@ use mathlib.Core.List.{List, [], _++_}
 use Prim.Native.Nat.{ℕ, _+_, _-_, _*_, _≤_}
 use lib.ListN.{length, take, drop}
 use Rattle.unanimous_shortcut.specs.Unanimous.{tablesOf}
-use Rattle.observation_windows.specs.Windows.{allAdded}
 use Rattle.lent_text.specs.Printed.{Printed}
 use Rattle.lent_text.proofs.Printed.{print-then, print-none, printed-length, printed-as}
 use Rattle.column_file.specs.Places.{columnsAt}
-use Rattle.column_calls.specs.Tables.{builderWith}
+use Rattle.column_calls.specs.Tables.{observationsIn, columnCallWith}
 use Rattle.listing_lines.specs.Lines.{textOf}
 use Rattle.listing_lines.specs.Tables.{lineWith, linesWith}
 use Rattle.listing_lines.proofs.Lines.{column-fits, lines-more, lines-past, lines-none, one-more, no-more}
@@ -19,11 +18,11 @@ use Rattle.listing_lines.proofs.put_lines.Tie as tie
 
 abbrev Inv-loop : tie.InvT-loop
 Inv-loop file from count start rows thresholds cerr-min cap out₀ at column₀ number₀ place₀ out column number place =
-    let g = tablesOf thresholds cerr-min cap in
+    let called = columnCallWith rows start (tablesOf thresholds cerr-min cap) in
     (number ≤ count)
     × (done : List ℕ)
     × Printed out₀ at done out place
-    × (done ++ textOf (linesWith (builderWith rows start) g (number + 1) (columnsAt file column (count - number))) ≡ textOf (linesWith (builderWith rows start) g 1 (columnsAt file from count)))
+    × (done ++ textOf (linesWith called (number + 1) (columnsAt file column (count - number))) ≡ textOf (linesWith called 1 (columnsAt file from count)))
 
 abbrev μ-loop : tie.MeasureT-loop
 μ-loop file from count start rows thresholds cerr-min cap out₀ at column₀ number₀ place₀ out column number place = count - number
@@ -52,9 +51,9 @@ returns c =
     let at-loop = c .before .before .before .before in
     let l = at-loop .loop in
     let a = at-loop .before .before .before .args in
-    let g = tablesOf (a .thresholds .now) (a .cerr-min .now) (a .cap) in
+    let called = columnCallWith (a .rows .now) (a .start) (tablesOf (a .thresholds .now) (a .cerr-min .now) (a .cap)) in
     let e = sym (c .before .before .column-at .ensures .0) ∙ c .enum-told .given .1 in
-    printed-as (l .inv .2) (no-more (l .inv .1) _ _ (lines-past (a .rows .now) g (a .start) (a .file .now) (l .column) (a .count - l .number) (l .number + 1) e) (l .inv .3))
+    printed-as (l .inv .2) (no-more (l .inv .1) _ _ (lines-past called (a .file .now) (l .column) (a .count - l .number) (l .number + 1) e) (l .inv .3))
 
 mul-end : tie.Need-mul-end Inv-loop μ-loop
 mul-end c = omega (arith, inside c)
@@ -62,34 +61,32 @@ mul-end c = omega (arith, inside c)
 add-end : tie.Need-add-end Inv-loop μ-loop
 add-end c = omega (arith, inside c)
 
-part-add-observations-end : tie.Need-part-add-observations-end Inv-loop μ-loop
-part-add-observations-end c = inside c
+part-call-column-end : tie.Need-part-call-column-end Inv-loop μ-loop
+part-call-column-end c = inside c
 
 loop-again : tie.Need-loop-again Inv-loop μ-loop
-unfolding lineWith
 loop-again c =
     let put = c .before .before in
-    let called = put .before .before .before in
-    let built = called .before in
-    let at-next = built .before .before .before in
+    let called-at = put .before .before in
+    let at-next = called-at .before .before .before in
     let at-loop = at-next .before .before .before .before in
     let l = at-loop .loop in
     let a = at-loop .before .before .before .args in
     let n = at-next .next .given in
     let s = a .file .now in
-    let g = tablesOf (a .thresholds .now) (a .cerr-min .now) (a .cap) in
+    let called = columnCallWith (a .rows .now) (a .start) (tablesOf (a .thresholds .now) (a .cerr-min .now) (a .cap)) in
     let end = n .0 .0 + 2 * n .0 .1 .0 in
-    let line = lineWith g (l .number + 1) (allAdded (a .rows .now) (a .start) (take (end - n .0 .0) (drop (n .0 .0) s))) (n .0 .1 .0) in
+    let line = lineWith (l .number + 1) (called (observationsIn (take (end - n .0 .0) (drop (n .0 .0) s)))) (n .0 .1 .0) in
     let e = sym (at-next .before .before .column-at .ensures .0) ∙ n .1 in
     let d : a .count - (l .number + 1) ≡ a .count - l .number - 1 = omega arith in
     let p : Printed (l .out) (l .place) line (put .put-line .last .0) (put .put-line .result) =
-    rw (← built .add-observations .ensures, ← called .call-with .ensures) (put .put-line .ensures) in (
+    rw (← called-at .call-column .ensures) (put .put-line .ensures) in (
       omega (arith, at-next .before .before .before .loop-test .taken),
       l .inv .1 ++ line,
       print-then (l .inv .2) p,
       rw d
           (one-more (l .inv .1) line _ _ _
-          (lines-more (a .rows .now) g (a .start) s (l .column) (a .count - l .number) (l .number + 1) (n .0 .0) (n .0 .1 .0) (omega arith) e)
+          (lines-more called s (l .column) (a .count - l .number) (l .number + 1) (n .0 .0) (n .0 .1 .0) (omega arith) e)
           (l .inv .3)),
     )
 
@@ -100,9 +97,9 @@ returns-2 : tie.Need-returns-2 Inv-loop μ-loop
 returns-2 c =
     let l = c .before .loop in
     let a = c .before .before .before .before .args in
-    let g = tablesOf (a .thresholds .now) (a .cerr-min .now) (a .cap) in
+    let called = columnCallWith (a .rows .now) (a .start) (tablesOf (a .thresholds .now) (a .cerr-min .now) (a .cap)) in
     printed-as (l .inv .2)
-    (no-more (l .inv .1) _ _ (lines-none (a .rows .now) g (a .start) (a .file .now) (l .column) (a .count - l .number) (l .number + 1) (omega arith)) (l .inv .3))
+    (no-more (l .inv .1) _ _ (lines-none called (a .file .now) (l .column) (a .count - l .number) (l .number + 1) (omega arith)) (l .inv .3))
 
 pub put-lines-spec : {M : Type 1} → statement M
 put-lines-spec =
@@ -117,8 +114,8 @@ put-lines-spec =
     mul-end
     add-end
     (λ c. search needs) (λ c. search needs)
-    part-add-observations-end
-    (λ c κs. tt) (λ c κs. tt) (λ c. search needs) (λ c κs. tt) (λ c. search needs)
+    part-call-column-end
+    (λ c κs. tt) (λ c. search needs) (λ c κs. tt) (λ c. search needs)
     loop-again
     same-length-2
     returns-2)

@@ -3,7 +3,7 @@ use mathlib.Core.Path.{refl}
 use Rattle.unanimous_shortcut.specs.Unanimous.{tablesOf}
 use Rattle.lent_text.proofs.Printed.{print-then, printed-length}
 use Rattle.column_file.specs.Places.{columnsAt}
-use Rattle.column_calls.specs.Tables.{builderWith}
+use Rattle.column_calls.specs.Tables.{columnCallWith}
 use Rattle.listing_lines.specs.Lines.{textOf}
 use Rattle.listing_lines.specs.Tables.{linesWith, textWith}
 use Rattle.listing_lines.proofs.put_text.Statement.{statement}
@@ -17,7 +17,7 @@ whole c =
     let header = lines .before .before .before .before in
     let a = header .before .before .before .before .before .before .args in
     let g = tablesOf (a .thresholds .now) (a .cerr-min .now) (a .cap) in
-    let text = textOf (linesWith (builderWith (a .rows .now) (a .start)) g 1 (columnsAt (a .file .now) (a .from) (a .count))) in
+    let text = textOf (linesWith (columnCallWith (a .rows .now) (a .start) g) 1 (columnsAt (a .file .now) (a .from) (a .count))) in
     print-then (print-then {u = text} (header .put-bytes .ensures) (lines .put-lines .ensures)) (c .before .before .put-umi .ensures)
 
 same-length : tie.Need-same-length

@@ -2,7 +2,7 @@
 use mathlib.Core.Path.{_≡_}
 use borrow.Author.Needs.{needs}
 use Rattle.column_file.specs.Places.{columnsAt}
-use Rattle.column_calls.specs.Tables.{builderWith}
+use Rattle.column_calls.specs.Tables.{columnCallWith}
 use Rattle.listing_lines.specs.Tables.{textWith}
 use Rattle.column_listing.specs.Places.{placesText}
 use Rattle.column_listing.proofs.Outcomes.{with-tables, outcome-short, outcome-put}
@@ -16,7 +16,7 @@ entered c = c .before .before .before .before .before .before .before .before .b
 -- the text by the windows and tables that were built
 text-same : (c : tie.After-start)
     → let p = entered c .args in
-    textWith (builderWith (c .before .before .before .windows .result) (c .start .result)) (c .before .before .before .before .before .before .before .before .build-unanimous-gap-tables .result)
+    textWith (columnCallWith (c .before .before .before .windows .result) (c .start .result) (c .before .before .before .before .before .before .before .before .build-unanimous-gap-tables .result))
     (columnsAt (p .file .now) (p .places .columns) (p .places .count)) (p .text .now) (p .had-errors)
     ≡ placesText (p .places) (p .file .now) (p .text .now) (p .had-errors)
 text-same c =
