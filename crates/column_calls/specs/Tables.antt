@@ -1,4 +1,4 @@
--- As it is run; `builders-with` (column_calls/proofs/Tables) joins it to `builderOf`: with windows, tables and a first builder that are given.
+-- As it is run; `calls-with` (column_calls/proofs/Tables) joins it to `calledColumn`: with windows, tables and a first builder that are given.
 use Prim.Native.Nat.{ℕ}
 use mathlib.Core.List.{List, [], _∷_}
 use lib.Ieee.{Float}

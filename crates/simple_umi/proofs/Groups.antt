@@ -21,9 +21,10 @@ use Rattle.rate_tables.specs.Adjusted.{adjustedTables}
 use Rattle.umi_column.specs.Calls.{namedByte}
 use Rattle.umi_column.proofs.Columns.{column-builder, column-byte}
 use Rattle.umi_family.specs.declared.calls.Called.{Called}
-use Rattle.umi_family.specs.Rows.{Fits, rowsAt, columnsAt}
-use Rattle.umi_family.specs.Family.{verdictWithin, verdictAt, builderBy, bytesBy, lastBy, textAt, calledAt}
-use Rattle.umi_family.proofs.RowLoops.{every-at, fit-so}
+use Rattle.umi_rows.specs.Rows.{Fits, rowsAt, columnsAt}
+use Rattle.umi_verdicts.specs.FamilyVerdicts.{verdictWithin, verdictAt}
+use Rattle.umi_family.specs.Family.{builderBy, bytesBy, lastBy, textAt, calledAt}
+use Rattle.umi_rows.proofs.RowLoops.{every-at, fit-so}
 use Rattle.string_set.specs.declared.Reading.{Reading}
 use Rattle.string_set.specs.declared.Reading.the-variants.{Refused, Strings}
 use Rattle.string_set.specs.StringSet.{readSet}

@@ -14,8 +14,8 @@ use Rattle.refusals.specs.declared.Verdict.the-variants.{Sound, Refused}
 use Rattle.refusals.specs.Refusals.{numberIn}
 use Rattle.refusals.specs.Result.{Result, refused, accepted, judged, andThen}
 use Rattle.base_builder.specs.declared.builder.ConsensusBaseBuilder.{ConsensusBaseBuilder}
-use Rattle.umi_family.specs.Rows.{Fits, rowsAt}
-use Rattle.umi_family.specs.Family.{verdictAt}
+use Rattle.umi_rows.specs.Rows.{Fits, rowsAt}
+use Rattle.umi_verdicts.specs.FamilyVerdicts.{verdictAt}
 use Rattle.string_set.specs.StringSet.{readSet}
 use Rattle.simple_umi.specs.declared.answers.Answer.{Answer}
 use Rattle.simple_umi.specs.declared.answers.Answer.the-variants as answer

@@ -12,7 +12,7 @@ use Rattle.words.specs.Lists.{every, byteAt}
 use Rattle.words.proofs.Tests.{every-first, every-more, every-failed, every-done}
 use Rattle.words.specs.Lists.{listed}
 use Rattle.words.proofs.Listed.{listed-length, level-at}
-use Rattle.umi_family.specs.Rows.{rowsAt, bytesAt, columnsAt}
+use Rattle.umi_rows.specs.Rows.{rowsAt, bytesAt, columnsAt}
 use Rattle.simple_umi.specs.Strings.{columnOf, columnsOf}
 use Rattle.simple_umi.specs.Places.{lengthsAlike}
 

@@ -10,7 +10,7 @@ use Rattle.base_builder.specs.declared.builder.ConsensusBaseBuilder.{ConsensusB
 use Rattle.base_builder.specs.Builder.{newAt}
 use Rattle.umi_column.specs.Calls.{columnBuilder, columnByte}
 use Rattle.simple_umi.specs.declared.caller.SimpleConsensusCaller.{SimpleConsensusCaller}
-use Rattle.umi_family.specs.Rows.{differsFrom}
+use Rattle.umi_rows.specs.Rows.{differsFrom}
 use Rattle.simple_umi.specs.Strings.{firstOf, columnsOf, alike, isFamily}
 use Rattle.simple_umi.specs.Verdicts.{consensusVerdict, umisVerdict, callVerdict}
 

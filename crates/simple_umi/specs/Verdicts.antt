@@ -9,7 +9,7 @@ use Rattle.refusals.specs.declared.Verdict.{Verdict}
 use Rattle.refusals.specs.declared.Verdict.the-variants.{Sound, Refused}
 use Rattle.refusals.specs.Result.{firstRefused}
 use Rattle.umi_column.specs.Verdicts.{verdictOf}
-use Rattle.umi_family.specs.Rows.{isHigh}
+use Rattle.umi_rows.specs.Rows.{isHigh}
 use Rattle.simple_umi.specs.Strings.{firstOf, columnsOf, alike, isFamily}
 
 -- the first faulty column decides

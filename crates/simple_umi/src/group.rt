@@ -4,7 +4,7 @@ ghost use Prim.Native.Nat.{_≤_};
 ghost use lib.ListN.{length};
 ghost use Rattle.refusals.specs.declared.Verdict.the-variants.{Refused};
 ghost use Rattle.refusals.specs.Result.{judged, andThen};
-ghost use Rattle.umi_family.specs.Rows.{Fits, rowsAt};
+ghost use Rattle.umi_rows.specs.Rows.{Fits, rowsAt};
 ghost use Rattle.simple_umi.specs.Verdicts.{familyVerdict};
 ghost use Rattle.simple_umi.specs.Consensus.{familyFound, consensusOf};
 ghost use Rattle.simple_umi.specs.Answers.{roomFor};
@@ -16,7 +16,7 @@ use lent_bytes::write_front;
 use refusals::Refusal;
 use refusals::Verdict;
 use umi_family::call_family;
-use umi_family::family_verdict;
+use umi_verdicts::family_verdict;
 
 // What a group gives beside the text in the buffer. Where it is refused, only the verdict means something.
 pub struct Group {

@@ -22,7 +22,7 @@ use Rattle.base_builder.specs.Builder.{resetOf}
 use Rattle.umi_column.specs.Dna.{isDnaBase}
 use Rattle.umi_column.proofs.Columns.{column-byte-kind, column-byte-other}
 use Rattle.simple_umi.specs.declared.caller.SimpleConsensusCaller.{SimpleConsensusCaller}
-use Rattle.umi_family.specs.Rows.{differsFrom}
+use Rattle.umi_rows.specs.Rows.{differsFrom}
 use Rattle.simple_umi.specs.Strings.{firstOf, columnOf, columnsOf, alike, isFamily}
 use Rattle.simple_umi.specs.Consensus.{Found, withBuilder, builderAt, byteOf, familyFound, firstFound, found, consensusOf, umisOf, callConsensusOf}
 use Rattle.simple_umi_laws.specs.Laws.{isBaseOrN, builderAfter, Answered}

@@ -15,7 +15,7 @@ use Rattle.refusals.specs.declared.Refusal.{Refusal}
 use Rattle.refusals.specs.declared.Refusal.the-variants.{NoStrings, LengthsDiffer, NotAscii}
 use Rattle.refusals.specs.declared.Verdict.the-variants.{Sound, Refused}
 use Rattle.umi_column.specs.Verdicts.{verdictOf}
-use Rattle.umi_family.specs.Rows.{isHigh}
+use Rattle.umi_rows.specs.Rows.{isHigh}
 use Rattle.simple_umi.specs.Strings.{firstOf, columnsOf, alike, isFamily}
 use Rattle.simple_umi.specs.Verdicts.{firstRefusal, familyVerdict, consensusVerdict, umisVerdict, callVerdict}
 use Rattle.simple_umi.specs.Consensus.{Found}

@@ -22,7 +22,7 @@ use Rattle.base_builder.specs.Builder.{total, cleared, newAt, resetOf, movedLan
 use Rattle.umi_column.specs.Dna.{toAsciiUppercase, isDnaBase}
 use Rattle.umi_column.specs.Verdicts.{isMixed, verdictOf}
 use Rattle.umi_column.specs.Calls.{addedAll, namedByte}
-use Rattle.umi_family.specs.Rows.{differsFrom}
+use Rattle.umi_rows.specs.Rows.{differsFrom}
 use Rattle.simple_umi.specs.Strings.{columnsOf, alike, isFamily}
 use Rattle.simple_umi.specs.Verdicts.{firstRefusal, familyVerdict, consensusVerdict}
 use Rattle.simple_umi.specs.Consensus.{Found, callerAt, defaultCaller, withBuilder, builderAt, byteOf, familyFound, firstFound, found, consensusOf}

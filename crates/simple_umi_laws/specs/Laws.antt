@@ -18,7 +18,7 @@ use Rattle.umi_column.specs.Dna.{isDnaBase}
 use Rattle.umi_column.specs.Verdicts.{verdictOf}
 use Rattle.umi_column.specs.Calls.{columnEvents}
 use Rattle.simple_umi.specs.declared.caller.SimpleConsensusCaller.{SimpleConsensusCaller}
-use Rattle.umi_family.specs.Rows.{isHigh, differsFrom}
+use Rattle.umi_rows.specs.Rows.{isHigh, differsFrom}
 use Rattle.simple_umi.specs.Strings.{firstOf, columnOf, columnsOf, alike, isFamily}
 use Rattle.simple_umi.specs.Verdicts.{consensusVerdict, umisVerdict, callVerdict}
 use Rattle.simple_umi.specs.Consensus.{Found, withBuilder, builderAt, found, consensusOf, umisOf, callConsensusOf}

@@ -1,41 +1,24 @@
--- Loops over the columns, and over the strings' bytes at one place. Assumes nothing.
+-- Loops over the columns: their sums, and what all of them give. Assumes nothing.
 use mathlib.Core.Path.{_≡_, refl, sym, _∙_, ap}
 use mathlib.Core.List.{List, [], _∷_, map}
 use Prim.Native.Nat.{ℕ, zero, suc, _+_, _-_, _≤_, _<_}
-use native.Mathlib.Numerals.{add-one}
 use native.Mathlib.Omega.{arith}
 use lib.Ieee.{Float}
 use lib.ListN.{length, take, drop, set, getD, length-map, length-set, drop-of-length-le}
-use lib.Seq.{drop-cons, take-suc, take-suc-set, take-take, take-all, getD-take}
 use Rattle.words.specs.Lists.{lastOr, byteAt}
 use Rattle.lent_bytes.proofs.Lists.{bytes-from}
-use Rattle.refusals.specs.declared.Refusal.{Refusal}
-use Rattle.refusals.specs.declared.Verdict.the-variants.{Sound, Refused}
-use Rattle.refusals.specs.Result.{firstRefused}
 use Rattle.words.specs.Lists.{listed}
 use Rattle.rate_tables.specs.declared.adjusted.AdjustedEntry.{AdjustedEntry}
 use Rattle.base_builder.specs.declared.builder.ConsensusBaseBuilder.{ConsensusBaseBuilder}
 use Rattle.umi_column.specs.Calls.{namedByte}
 use Rattle.umi_column.proofs.SumLaws.{sums-byte}
 use Rattle.tie_rules.specs.declared.tie_rule.TieRule.{TieRule}
-use Rattle.words.proofs.Listed.{listed-length, level-at}
-use Rattle.umi_column.specs.Verdicts.{verdictOf}
 use Rattle.umi_column.specs.declared.sums.LaneSums.{LaneSums}
 use Rattle.umi_column.specs.Sums.{windowOf, summedBy, summedAll}
-use Rattle.umi_family.specs.Rows.{bytesAt, columnsAt}
+use Rattle.umi_rows.specs.Rows.{bytesAt, columnsAt}
+use Rattle.umi_rows.proofs.RowLoops.{map-at, given-length, given-at}
+use Rattle.umi_rows.proofs.ColumnLoops.{filled-more, filled, columns-length, column-at}
 use Rattle.umi_family.specs.Family.{builderBy, bytesBy, byteSummed, bytesSummed, lastBy}
-use Rattle.umi_family.proofs.RowLoops.{map-at, given-length, given-at}
-
--- ---- a list filled place by place with what another holds
-module _ {A : Type 0} (out l : List A) (k : ℕ) where
-  pub filled-more : (d v : A) → k < length l → k < length out → v ≡ getD l k d → take k out ≡ take k l → take (k + 1) (set out k v) ≡ take (k + 1) l
-  filled-more d v h g w e = rw (add-one k, take-suc-set out k v g, take-suc l k d h, e, w)
-
-  pub filled-less : (j : ℕ) → j ≤ k → take k out ≡ take k l → take j out ≡ take j l
-  filled-less j h e = sym (take-take j k out h) ∙ ap (take j) e ∙ take-take j k l h
-
-  pub filled : length out ≤ k → length l ≤ k → take k out ≡ take k l → out ≡ l
-  filled h g e = sym (take-all k out h) ∙ e ∙ take-all k l g
 
 -- ---- the sums of a column, of whose bytes k are passed
 module _ (window : List Float) (f : ℕ → ℕ) (ps : List ℕ) (k : ℕ) (sums : LaneSums) where
@@ -51,24 +34,13 @@ module _ (window : List Float) (f : ℕ → ℕ) (ps : List ℕ) (k : ℕ) (sums
       rw (drop-of-length-le (map f ps) l)
 
 -- ---- the columns
-pub first-byte : (s ps : List ℕ) (at : ℕ) → 0 < length ps → byteAt (bytesAt at s ps) 0 ≡ byteAt s (byteAt ps 0 + 1 + at)
-first-byte s ps at h = given-at _ ps 0 0 h
-
 module _ (w : ℕ) (s ps : List ℕ) where
-  pub columns-length : length (columnsAt w s ps) ≡ w
-  unfolding columnsAt
-  columns-length = listed-length (λ k. bytesAt k s ps) 0 w
-
-  pub column-at : (at : ℕ) → at < w → getD (columnsAt w s ps) at [] ≡ bytesAt at s ps
-  unfolding columnsAt
-  column-at at h = level-at (λ k. bytesAt k s ps) [] w at h
-
   -- the byte at a place by the sums of its column
   pub summed-at : (window : List Float) (rule : TieRule) (at : ℕ) → at < w → getD (bytesSummed window rule (columnsAt w s ps)) at 0 ≡ byteSummed window rule (bytesAt at s ps)
-  summed-at window rule at h = map-at _ (columnsAt w s ps) at [] 0 (rw columns-length h) ∙ rw (column-at at h)
+  summed-at window rule at h = map-at _ (columnsAt w s ps) at [] 0 (rw (columns-length w s ps) h) ∙ rw (column-at w s ps at h)
 
   pub summed-length : (window : List Float) (rule : TieRule) → length (bytesSummed window rule (columnsAt w s ps)) ≡ w
-  summed-length window rule = length-map (columnsAt w s ps) _ ∙ columns-length
+  summed-length window rule = length-map (columnsAt w s ps) _ ∙ columns-length w s ps
 
   -- a column more
   pub column-more : (window : List Float) (rule : TieRule) (text : List ℕ) (at x : ℕ) → length text ≡ w → at < w → x ≡ byteSummed window rule (bytesAt at s ps)
@@ -77,25 +49,6 @@ module _ (w : ℕ) (s ps : List ℕ) where
       let bytes = bytesSummed window rule (columnsAt w s ps) in
       let size : length bytes ≡ w = summed-length window rule in
       filled-more text bytes at 0 x (omega arith) (omega arith) (e ∙ sym (summed-at window rule at h)) told
-
--- the first faulty column, of which k are passed
-module _ (cs : List (List ℕ)) (k : ℕ) where
-  pub refusal-more : k < length cs → verdictOf (getD cs k []) ≡ Sound → firstRefused verdictOf (drop (k + 1) cs) ≡ firstRefused verdictOf (drop k cs)
-  refusal-more h e = rw (add-one k, drop-cons cs k [] h, e)
-
-  pub refusal-found : k < length cs → (r : Refusal) → verdictOf (getD cs k []) ≡ Refused r → Refused r ≡ firstRefused verdictOf (drop k cs)
-  refusal-found h r e = rw (drop-cons cs k [] h, e)
-
-  pub refusal-none : length cs ≤ k → Sound ≡ firstRefused verdictOf (drop k cs)
-  refusal-none h = rw (drop-of-length-le cs h)
-
--- ---- a column of as many bytes as there are places, gathered byte by byte
-module _ (s ps : List ℕ) (at : ℕ) (column : List ℕ) (e : take (length ps) column ≡ bytesAt at s ps) where
-  pub gathered-count : length ps ≡ length (take (length ps) column)
-  gathered-count = sym (ap length e ∙ given-length _ ps)
-
-  pub gathered-first : 0 < length ps → byteAt column 0 ≡ byteAt (bytesAt at s ps) 0
-  gathered-first h = sym (getD-take (length ps) column 0 0 h) ∙ ap (λ (l : List ℕ). byteAt l 0) e
 
 -- ---- what all columns give
 map-listed : (f g : List ℕ → ℕ) (column : ℕ → List ℕ) (a n : ℕ) → ((k : ℕ) → f (column k) ≡ g (column k)) → map f (listed column a n) ≡ map g (listed column a n)

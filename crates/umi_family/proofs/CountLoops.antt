@@ -16,9 +16,9 @@ use Rattle.words.specs.Lists.{byteAt}
 use Rattle.lent_bytes.proofs.Lists.{bytes-from}
 use Rattle.tie_rules.specs.Lanes.{laneOfByte}
 use Rattle.umi_column.specs.Counts.{countOf}
-use Rattle.umi_family.specs.Rows.{bytesAt}
+use Rattle.umi_rows.specs.Rows.{bytesAt}
 use Rattle.umi_family.specs.Counts.{hitBy, oneIn, Room, Counted, CountsOf}
-use Rattle.umi_family.proofs.RowLoops.{given-length, given-at, row-lent}
+use Rattle.umi_rows.proofs.RowLoops.{given-length, given-at, row-lent}
 
 -- ---- the two letters of each lane, computed at all 256 bytes
 unfoldable lettersAt : ℕ → ℕ → ℕ → ℕ → Bool

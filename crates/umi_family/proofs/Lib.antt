@@ -1,5 +1,3 @@
-pub mod RowLoops
 pub mod ColumnLoops
 pub mod CountLoops
 pub mod ByCounts
-pub mod Likeness

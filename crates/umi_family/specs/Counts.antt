@@ -10,7 +10,7 @@ use Rattle.words.specs.Choice.{if_then_else_}
 use Rattle.words.specs.Lists.{byteAt}
 use Rattle.tie_rules.specs.Lanes.{laneOfByte}
 use Rattle.umi_column.specs.Counts.{countOf}
-use Rattle.umi_family.specs.Rows.{bytesAt}
+use Rattle.umi_rows.specs.Rows.{bytesAt}
 
 -- 1 for either letter, and 0 for any other byte
 abbrev pub hitBy : ℕ → ℕ → ℕ → ℕ

@@ -2,7 +2,7 @@
 ghost use mathlib.Core.Path.{_≡_};
 ghost use Prim.Native.Nat.{_+_, _-_};
 ghost use lib.ListN.{length, take};
-ghost use Rattle.umi_family.specs.Rows.{Fits, bytesAt, columnsAt};
+ghost use Rattle.umi_rows.specs.Rows.{Fits, bytesAt, columnsAt};
 ghost use Rattle.umi_family.specs.Family.{byteSummed, bytesSummed};
 use tie_rules::TieRule;
 use umi_column::add_base;

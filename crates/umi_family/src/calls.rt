@@ -1,16 +1,36 @@
 // What a family gives.
 ghost use mathlib.Core.Path.{_≡_};
+ghost use lib.ListN.{length};
+ghost use Rattle.words.specs.Lists.{any};
+ghost use Rattle.umi_rows.specs.Rows.{Fits, rowsAt, differsFrom};
 ghost use Rattle.umi_family.specs.Family.{textAt, calledAt};
 use crate::columns::call_columns;
-use crate::rows::any_differs;
-use crate::rows::fit;
 use base_builder::ConsensusBaseBuilder;
+use lent_bytes::same_bytes;
 use rate_tables::AdjustedEntry;
+use umi_rows::fit;
 
 // Whether a string differs from the text, and the builder after the last column.
 pub struct Called {
     pub had_errors: bool,
     pub builder: ConsensusBaseBuilder,
+}
+
+// Whether a string differs from a text of its width.
+fn any_differs(set: &[u8], places: &[usize], text: &[u8]) -> bool
+    requires { ⌜ Fits (length (now text)) (now set) (now places) ⌝ }
+    ensures { λ r. ⌜ r ≡ any (differsFrom (now (text .entry))) (rowsAt (length (now (text .entry))) (now (set .entry)) (now (places .entry))) ⌝ }
+{
+    let mut k = 0;
+    while k < places.len() {
+        let from = places[k] + 1;
+        let end = from + text.len();
+        if !same_bytes(&set[from..end], text) {
+            return true;
+        }
+        k += 1;
+    }
+    false
 }
 
 // Each column's byte into the text. What strings that do not lie in the set give, and no places, is free:

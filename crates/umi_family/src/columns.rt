@@ -1,9 +1,9 @@
 // The columns of a family.
 ghost use mathlib.Core.Path.{_≡_};
-ghost use Prim.Native.Nat.{_+_, _-_};
+ghost use Prim.Native.Nat.{_-_};
 ghost use lib.ListN.{length, take};
 ghost use Rattle.umi_column.specs.Sums.{windowOf};
-ghost use Rattle.umi_family.specs.Rows.{Fits, bytesAt, columnsAt};
+ghost use Rattle.umi_rows.specs.Rows.{Fits, columnsAt};
 ghost use Rattle.umi_family.specs.Family.{bytesBy, bytesSummed, lastBy};
 use crate::by_sums::call_summed;
 use crate::counts::counts_decide;
@@ -14,20 +14,7 @@ use tie_rules::TieRule;
 use umi_column::add_column;
 use umi_column::consensus_byte;
 use umi_column::window_of;
-
-// The bytes that the strings have at one place.
-pub(crate) fn gather(set: &[u8], places: &[usize], at: usize) -> [u8; 255]
-    requires { ⌜ Fits (at + 1) (now set) (now places) ⌝ }
-    ensures { λ r. ⌜ take (length (now (places .entry))) r ≡ bytesAt at (now (set .entry)) (now (places .entry)) ⌝ }
-{
-    let mut column = [0u8; 255];
-    let mut k = 0;
-    while k < places.len() {
-        column[k] = set[places[k] + 1 + at];
-        k += 1;
-    }
-    column
-}
+use umi_rows::gather;
 
 // The bytes of all columns but the last: by counts where these decide and have room, else by sums
 // alone. Counts pay from two strings on.

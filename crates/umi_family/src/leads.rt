@@ -6,7 +6,7 @@ ghost use Rattle.tie_rules.specs.declared.tie_rule.TieRule.the-variants.{FgbioC
 ghost use Rattle.tie_rules.specs.Ties.{uniqueMaxIndexWith};
 ghost use Rattle.umi_column.specs.Sums.{noSums, summedAll};
 ghost use Rattle.umi_count_laws.specs.Named.{Faithful};
-ghost use Rattle.umi_family.specs.Rows.{Fits, bytesAt, columnsAt};
+ghost use Rattle.umi_rows.specs.Rows.{Fits, bytesAt, columnsAt};
 ghost use Rattle.umi_family.specs.Counts.{CountsOf};
 ghost use Rattle.umi_family.specs.Family.{byteSummed, bytesSummed};
 use crate::by_sums::summed_byte;

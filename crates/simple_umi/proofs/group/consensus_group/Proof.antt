@@ -10,8 +10,8 @@ use lib.Seq.{length-take-le}
 use Rattle.words.specs.Lists.{byteAt}
 use Rattle.refusals.specs.declared.Verdict.the-variants.{Sound}
 use Rattle.refusals.specs.Result.{Result, andThen}
-use Rattle.umi_family.specs.Rows.{rowsAt}
-use Rattle.umi_family.proofs.RowLoops.{row-lent}
+use Rattle.umi_rows.specs.Rows.{rowsAt}
+use Rattle.umi_rows.proofs.RowLoops.{row-lent}
 use Rattle.simple_umi.specs.Answers.{roomFor}
 use Rattle.simple_umi.specs.Verdicts.{familyVerdict}
 use Rattle.simple_umi.specs.Consensus.{Found, familyFound}

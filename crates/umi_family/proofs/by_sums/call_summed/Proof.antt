@@ -4,10 +4,11 @@ use Prim.Native.Nat.{_+_, _-_, _≤_}
 use native.Mathlib.Omega.{arith}
 use borrow.Author.Needs.{needs}
 use lib.ListN.{length, take, length-set}
-use Rattle.umi_family.specs.Rows.{columnsAt}
+use Rattle.umi_rows.specs.Rows.{columnsAt}
 use Rattle.umi_family.specs.Family.{bytesSummed}
-use Rattle.umi_family.proofs.RowLoops.{fits-less}
-use Rattle.umi_family.proofs.ColumnLoops.{filled-less, column-more}
+use Rattle.umi_rows.proofs.RowLoops.{fits-less}
+use Rattle.umi_rows.proofs.ColumnLoops.{filled-less}
+use Rattle.umi_family.proofs.ColumnLoops.{column-more}
 use Rattle.umi_family.proofs.by_sums.call_summed.Statement.{statement}
 use Rattle.umi_family.proofs.by_sums.call_summed.Tie as tie
 

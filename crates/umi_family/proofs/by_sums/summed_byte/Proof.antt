@@ -5,8 +5,9 @@ use native.Mathlib.Omega.{arith}
 use borrow.Author.Needs.{needs}
 use lib.ListN.{length, drop}
 use Rattle.umi_column.specs.Sums.{noSums, summedAll}
-use Rattle.umi_family.specs.Rows.{bytesAt}
-use Rattle.umi_family.proofs.ColumnLoops.{summed-more, summed-none, first-byte}
+use Rattle.umi_rows.specs.Rows.{bytesAt}
+use Rattle.umi_rows.proofs.ColumnLoops.{first-byte}
+use Rattle.umi_family.proofs.ColumnLoops.{summed-more, summed-none}
 use Rattle.umi_family.proofs.by_sums.summed_byte.Statement.{statement}
 use Rattle.umi_family.proofs.by_sums.summed_byte.Tie as tie
 

@@ -4,9 +4,9 @@ use mathlib.Core.Bool.{true}
 use borrow.Author.Tests.{not-true, not-false}
 use borrow.Author.Needs.{needs}
 use lib.ListN.{length}
-use Rattle.umi_family.specs.Rows.{fitting, Fits}
+use Rattle.umi_rows.specs.Rows.{fitting, Fits}
 use Rattle.umi_family.specs.Family.{textAt, calledAt}
-use Rattle.umi_family.proofs.RowLoops.{fits}
+use Rattle.umi_rows.proofs.RowLoops.{fits}
 use Rattle.umi_family.proofs.calls.call_family.Statement.{statement}
 use Rattle.umi_family.proofs.calls.call_family.Tie as tie
 

@@ -4,7 +4,7 @@ use native.Mathlib.Omega.{arith}
 use borrow.Author.Needs.{needs}
 use lib.ListN.{length}
 use Rattle.words.specs.Lists.{byteAt}
-use Rattle.umi_family.proofs.RowLoops.{row-lent}
+use Rattle.umi_rows.proofs.RowLoops.{row-lent}
 use Rattle.umi_family.proofs.CountLoops.{Done, row-size, done-none, done-room, done-more, done-all}
 use Rattle.umi_family.proofs.leads.call_counted.Statement.{statement}
 use Rattle.umi_family.proofs.leads.call_counted.Tie as tie

@@ -5,10 +5,11 @@ use native.Mathlib.Omega.{arith}
 use borrow.Author.Needs.{needs}
 use lib.ListN.{length, take, length-set}
 use Rattle.tie_rules.specs.declared.tie_rule.TieRule.the-variants.{FgbioCompat}
-use Rattle.umi_family.specs.Rows.{bytesAt, columnsAt}
+use Rattle.umi_rows.specs.Rows.{bytesAt, columnsAt}
 use Rattle.umi_family.specs.Family.{bytesSummed}
-use Rattle.umi_family.proofs.RowLoops.{fits-less, given-length}
-use Rattle.umi_family.proofs.ColumnLoops.{filled-less, column-more}
+use Rattle.umi_rows.proofs.RowLoops.{fits-less, given-length}
+use Rattle.umi_rows.proofs.ColumnLoops.{filled-less}
+use Rattle.umi_family.proofs.ColumnLoops.{column-more}
 use Rattle.umi_family.proofs.ByCounts.{leads}
 use Rattle.umi_family.proofs.leads.call_leads.Statement.{statement}
 use Rattle.umi_family.proofs.leads.call_leads.Tie as tie

@@ -5,7 +5,7 @@ use borrow.Author.Needs.{needs}
 use borrow.Author.Tests.{not-true, not-false}
 use Rattle.tie_rules.specs.Lanes.{baseOf}
 use Rattle.umi_column.specs.Sums.{byteBy}
-use Rattle.umi_family.proofs.ColumnLoops.{first-byte}
+use Rattle.umi_rows.proofs.ColumnLoops.{first-byte}
 use Rattle.umi_family.proofs.leads.led_byte.Statement.{statement}
 use Rattle.umi_family.proofs.leads.led_byte.Tie as tie
 
