@@ -40,4 +40,4 @@ in-room out (accepted t) h =
 
 pub short : (s out : List ℕ) → Short (listingAnswer (listedIn s out))
 unfolding listedIn listingOf
-short s out = in-room out (listed s) (fits s)
+short s out = in-room out (listed s) (fits s .most)
