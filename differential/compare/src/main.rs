@@ -10,6 +10,7 @@ mod arguments;
 mod bench;
 mod builder;
 mod builders;
+mod counts;
 mod difference;
 mod elementary;
 mod environment;

@@ -50,10 +50,6 @@ impl Ways {
         self.of_each.iter().filter_map(|way| way.example.as_ref())
     }
 
-    pub fn forget_examples(&mut self) {
-        self.of_each.iter_mut().for_each(|way| way.example = None);
-    }
-
     pub fn print(&self) {
         for (way, tally) in Way::OTHERS.into_iter().zip(&self.of_each) {
             println!(

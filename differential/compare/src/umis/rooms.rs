@@ -23,15 +23,15 @@ pub fn row(sets: u64, random: &mut Random) -> Row {
 
 /// A set in the rooms that there are for what it needs.
 fn compare(set: &[u8], rooms: fn(usize) -> Vec<usize>, row: &mut Row) {
-    row.sets += 1;
+    row.counts.one("how many");
     for function in Function::ALL {
-        let Some(found) = row.found(function, DEFAULTS, set) else {
+        let Some(found) = row.found_of_set(function, DEFAULTS, set) else {
             continue;
         };
         for mut call in calls(function, DEFAULTS, set) {
             for room in rooms(call.needed(&found)) {
                 call.room = room;
-                row.compare(&call, &found);
+                row.compare_umi(&call, &found);
             }
         }
     }
