@@ -9,7 +9,7 @@ use std::hint::black_box;
 use std::time::Instant;
 
 use crate::environment;
-use crate::exports::{consensus_exp, consensus_exp_m1, consensus_ln, consensus_ln_1p};
+use crate::exports;
 use crate::random::Random;
 use crate::table::Table;
 
@@ -95,13 +95,13 @@ fn of_sequences(seed: u64) -> Result<Vec<Line>, String> {
 fn round(seed: u64) -> Vec<Line> {
     let mut random = Random::new(seed);
     let mut lines = Vec::new();
-    lines.extend(both("exp", (-30.0, 0.0), &mut random, f64::exp, |x| consensus_exp(x)));
-    lines.extend(both("ln", (0.0, 0.9), &mut random, f64::ln, |x| consensus_ln(x)));
+    lines.extend(both("exp", (-30.0, 0.0), &mut random, f64::exp, |x| exports::exp(x)));
+    lines.extend(both("ln", (0.0, 0.9), &mut random, f64::ln, |x| exports::ln(x)));
     for range in [(0.0, 0.4), (0.5, 1.0)] {
-        lines.extend(both("ln_1p", range, &mut random, f64::ln_1p, |x| consensus_ln_1p(x)));
+        lines.extend(both("ln_1p", range, &mut random, f64::ln_1p, |x| exports::ln_1p(x)));
     }
     for range in [(-0.34, 0.0), (-0.69, -0.35)] {
-        lines.extend(both("exp_m1", range, &mut random, f64::exp_m1, |x| consensus_exp_m1(x)));
+        lines.extend(both("exp_m1", range, &mut random, f64::exp_m1, |x| exports::exp_m1(x)));
     }
     lines
 }

@@ -22,6 +22,7 @@ mod histories;
 mod history;
 mod phred;
 mod random;
+mod ranges;
 mod recorded;
 mod soak;
 mod table;
