@@ -6,6 +6,7 @@ use std::f64::consts::{LN_2, LN_10};
 use oracle::phred::{MAX_PHRED, phred_to_ln_error_prob};
 
 use crate::function::{Function, Takes};
+use crate::lists::lists;
 
 /// How many lanes most arrays have, and how many any has at most.
 pub const USUAL_LANES: usize = 4;
@@ -148,14 +149,7 @@ pub fn each_pair(numbers: &[f64]) -> Vec<Arguments> {
 
 /// Every array of so many of these numbers.
 pub fn arrays(numbers: &[f64], lanes: usize) -> Vec<Arguments> {
-    if lanes == 0 {
-        return vec![Arguments::new(&[])];
-    }
-    let longer = |shorter: Arguments| {
-        let with = |&number| Arguments::new(&[shorter.values(), &[number]].concat());
-        numbers.iter().map(with).collect::<Vec<Arguments>>()
-    };
-    arrays(numbers, lanes - 1).into_iter().flat_map(longer).collect()
+    lists(numbers, lanes as u32).map(|lanes| Arguments::new(&lanes)).collect()
 }
 
 /// Every array of up to four special lanes.

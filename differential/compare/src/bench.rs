@@ -31,6 +31,18 @@ struct Line {
 }
 
 impl Line {
+    /// By the seconds that so many took, the Rust's first.
+    fn new(
+        function: &'static str,
+        arguments: impl Into<String>,
+        measure: &'static str,
+        seconds: [f64; 2],
+        many: usize,
+    ) -> Self {
+        let [rust, ours] = seconds.map(|seconds| seconds * 1e9 / many as f64);
+        Self { function, arguments: arguments.into(), measure, rust, ours }
+    }
+
     /// The better times of two rounds.
     fn better(self, other: Self) -> Self {
         Self { rust: self.rust.min(other.rust), ours: self.ours.min(other.ours), ..self }
@@ -115,15 +127,10 @@ fn both(
     ours: impl Fn(f64) -> f64,
 ) -> [Line; 2] {
     let arguments: Vec<f64> = (0..ARGUMENTS).map(|_| random.between(low, high)).collect();
-    let line = |measure, (rust, ours)| Line {
-        function,
-        arguments: format!("{low} to {high}"),
-        measure,
-        rust,
-        ours,
-    };
-    let throughput = fastest(|| sum(&arguments, &rust), || sum(&arguments, &ours));
-    let latency = fastest(|| chain(&arguments, &rust), || chain(&arguments, &ours));
+    let line =
+        |measure, best| Line::new(function, format!("{low} to {high}"), measure, best, ARGUMENTS);
+    let throughput = fastest(RUNS, || sum(&arguments, &rust), || sum(&arguments, &ours));
+    let latency = fastest(RUNS, || chain(&arguments, &rust), || chain(&arguments, &ours));
     [line("throughput", throughput), line("latency", latency)]
 }
 
@@ -139,15 +146,18 @@ fn chain(arguments: &[f64], function: impl Fn(f64) -> f64) -> f64 {
     arguments.iter().fold(0.0, |answer, &x| function(x + answer * zero))
 }
 
-/// Nanoseconds a call of the fastest run of each side, the sides taking turns.
-fn fastest(rust: impl Fn() -> f64, ours: impl Fn() -> f64) -> (f64, f64) {
-    let mut best = (f64::INFINITY, f64::INFINITY);
-    for _ in 0..RUNS {
-        best.0 = best.0.min(seconds(&rust));
-        best.1 = best.1.min(seconds(&ours));
+/// The fastest of so many runs of each side in seconds, the Rust's first, the sides taking turns.
+fn fastest<R, O>(
+    runs: usize,
+    mut rust: impl FnMut() -> R,
+    mut ours: impl FnMut() -> O,
+) -> [f64; 2] {
+    let mut best = [f64::INFINITY; 2];
+    for _ in 0..runs {
+        best[0] = best[0].min(seconds(&mut rust));
+        best[1] = best[1].min(seconds(&mut ours));
     }
-    let nanoseconds_a_call = 1e9 / ARGUMENTS as f64;
-    (best.0 * nanoseconds_a_call, best.1 * nanoseconds_a_call)
+    best
 }
 
 fn seconds<T>(run: impl FnOnce() -> T) -> f64 {

@@ -1,6 +1,6 @@
 //! A count over the files of one kind.
 
-use super::call::{Call, Function};
+use super::call::{Call, Function, difference};
 use super::cause::explained;
 use super::listing::Found;
 use super::parts::Made;
@@ -97,7 +97,7 @@ impl Row {
             return;
         }
         let Call { function, file, room } = call;
-        let problem = format!("{}: {}", function.name(), ours.difference(&demanded));
+        let problem = format!("{}: {}", function.name(), difference(&ours, &demanded));
         match explained(found).filter(|explained| ours == call.demanded(found, &explained.text)) {
             Some(explained) => {
                 let example = || format!("file {}: {problem}", digits(file));

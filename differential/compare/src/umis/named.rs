@@ -1,6 +1,6 @@
 //! The sets that SCOPE names, with what it says of them; and functions that there are not.
 
-use super::call::{Call, ROOM};
+use super::call::{Call, ROOM, difference};
 use super::file_form::written;
 use super::found::Found;
 use super::function::{DEFAULTS, Function, Rates};
@@ -37,7 +37,7 @@ fn compare(named: &Named, function: Function, row: &mut Row) {
     };
     let (rust, demanded) = (call.demanded(&found), call.demanded(&named.answer));
     if rust != demanded {
-        let difference = rust.difference(&demanded);
+        let difference = difference(&rust, &demanded);
         row.umi_differs(&call, &format!("the Rust in the place of ours: {difference}"));
     }
 }

@@ -5,6 +5,7 @@ use super::families::{any_kind, shape, small_shape};
 use super::file_form::written;
 use super::function::{DEFAULTS, Function};
 use super::row::Row;
+use crate::outcome::every_room;
 use crate::random::Random;
 
 /// One set is compared in many rooms for so many that are asked for.
@@ -35,10 +36,6 @@ fn compare(set: &[u8], rooms: fn(usize) -> Vec<usize>, row: &mut Row) {
             }
         }
     }
-}
-
-fn every_room(needed: usize) -> Vec<usize> {
-    (0..needed + 3).chain([needed + 1000]).collect()
 }
 
 fn some_rooms(needed: usize) -> Vec<usize> {

@@ -1,6 +1,6 @@
 //! A count over the calls on sets of one kind.
 
-use super::call::{Call, ROOM, calls};
+use super::call::{Call, ROOM, calls, difference};
 use super::condition::NUMBERS;
 use super::found::Found;
 use super::function::{DEFAULTS, Function, Rates};
@@ -50,7 +50,7 @@ impl Row {
         self.count_umi(demanded.reply, call, found);
         let ours = call.ours();
         if ours != demanded {
-            self.umi_differs(call, &ours.difference(&demanded));
+            self.umi_differs(call, &difference(&ours, &demanded));
         }
     }
 
