@@ -168,7 +168,7 @@ fn seconds<T>(run: impl FnOnce() -> T) -> f64 {
 
 fn table(lines: &[Line]) -> Table {
     let mut table =
-        Table::new(&["function", "arguments", "measure", "Rust, ns", "ours, ns", "ratio"], 3..6);
+        Table::new("function | arguments | measure | Rust, ns | ours, ns | ratio", 3..6);
     for line in lines {
         table.row(vec![
             line.function.to_owned(),

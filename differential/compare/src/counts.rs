@@ -68,6 +68,16 @@ impl Counts {
         }
     }
 
+    /// A text in which a name in braces stands for its count.
+    pub fn told(&self, text: &str) -> String {
+        let mut parts = text.split('{');
+        let before = parts.next().unwrap_or_default().to_owned();
+        parts.fold(before, |told, part| {
+            let (name, after) = part.split_once('}').expect("a brace is closed");
+            told + &self.of(name).to_string() + after
+        })
+    }
+
     /// How many were refused by each of these numbers.
     pub fn of_numbers(&self, numbers: &[u64]) -> Vec<(u64, u64)> {
         numbers.iter().map(|number| (*number, self.of(digits(*number)))).collect()
@@ -144,23 +154,20 @@ pub fn examples(command: &str, rows: &[Row]) -> Vec<String> {
     rows.iter().filter_map(words).collect()
 }
 
-/// A line of each name: these of its counts, below their own names.
-pub fn table<'a>(
-    what: &str,
-    names: &[&'static str],
-    lines: impl IntoIterator<Item = (&'a str, &'a Counts)>,
-) -> Table {
-    let mut table = Table::new(&[&[what], names].concat(), 1..1 + names.len());
-    for (name, counts) in lines {
-        let cells = names.iter().map(|head| counts.of(head).to_string());
-        table.row([name.to_owned()].into_iter().chain(cells).collect());
+/// A line of each name with its counts, those that are the heads of the columns.
+pub fn table<'a>(head: &str, lines: impl IntoIterator<Item = (&'a str, &'a Counts)>) -> Table {
+    let names: Vec<&str> = head.split(" | ").skip(1).collect();
+    let mut table = Table::new(head, 1..1 + names.len());
+    for (line, counts) in lines {
+        let cells = names.iter().map(|name| counts.of(name).to_string());
+        table.row([line.to_owned()].into_iter().chain(cells).collect());
     }
     table
 }
 
 /// The table of some rows, and of their sum.
-pub fn table_of(what: &str, names: &[&'static str], rows: &[Row], all: &Row) -> Table {
-    table(what, names, rows.iter().chain([all]).map(|row| (&row.name[..], &row.counts)))
+pub fn table_of(head: &str, rows: &[Row], all: &Row) -> Table {
+    table(head, rows.iter().chain([all]).map(|row| (&row.name[..], &row.counts)))
 }
 
 /// Prints what was never demanded, and says whether there is no such thing: without it nothing would

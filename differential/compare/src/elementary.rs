@@ -45,19 +45,9 @@ fn recorded_calls() -> io::Result<[Tally; ELEMENTARY.len()]> {
 }
 
 fn table(lines: &[Line]) -> Table {
-    let head = [
-        "function",
-        "arguments",
-        "how many",
-        "differ",
-        "ulps",
-        "allowed",
-        "for example at",
-        "ours",
-        "the Rust's",
-        "",
-    ];
-    let mut table = Table::new(&head, 2..9);
+    let head = "function | arguments | how many | differ | ulps | allowed | for example at | \
+        ours | the Rust's | ";
+    let mut table = Table::new(head, 2..9);
     for line in lines {
         let tally = &line.tally;
         let allowed = match line.demand {

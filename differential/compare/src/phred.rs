@@ -46,22 +46,9 @@ fn summary(lines: &[Line]) -> String {
 }
 
 fn table(lines: &[Line]) -> Table {
-    let head = [
-        "function",
-        "arguments",
-        "demanded",
-        "how many",
-        "panics",
-        "differ",
-        "by elementary",
-        "otherwise",
-        "ulps",
-        "",
-        "ours",
-        "the Rust's",
-        "for example at",
-    ];
-    let mut table = Table::new(&head, 3..12);
+    let head = "function | arguments | demanded | how many | panics | differ | by elementary | \
+        otherwise | ulps |  | ours | the Rust's | for example at";
+    let mut table = Table::new(head, 3..12);
     for line in lines {
         let tally = &line.tally;
         let demanded = match line.demand {

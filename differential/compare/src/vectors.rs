@@ -31,6 +31,7 @@ const PHRED_ANSWERS: usize = 300;
 const ALLOWED: Demand = Demand::Ulps(2);
 
 /// The lines of one function.
+#[derive(Default)]
 pub struct Lines {
     pub function: &'static str,
     pub lines: Vec<String>,
@@ -89,7 +90,7 @@ fn elementary_lines(
     list.add_all(each(&evenly(recorded, ELEMENTARY_ANSWERS / 3)), Demand::Ulps(0))?;
     list.add_all(each(&elementary_always_stored(function)), ALLOWED)?;
     list.fill(random)?;
-    Ok(list.lines())
+    Ok(list.lines)
 }
 
 fn phred_lines(function: &'static Function, random: &mut Random) -> Result<Lines, String> {
@@ -98,7 +99,7 @@ fn phred_lines(function: &'static Function, random: &mut Random) -> Result<Lines
     if function.takes != Takes::Level {
         list.fill(random)?;
     }
-    Ok(list.lines())
+    Ok(list.lines)
 }
 
 /// Arguments that are stored whatever else is.
@@ -186,14 +187,13 @@ struct List {
     /// How many there are to be.
     many: usize,
     seen: HashSet<String>,
-    lines: Vec<String>,
-    /// How many are not stored, since ours differ from the Rust's.
-    left_out: usize,
+    lines: Lines,
 }
 
 impl List {
     fn new(function: &'static Function, many: usize) -> Self {
-        Self { function, many, seen: HashSet::new(), lines: Vec::new(), left_out: 0 }
+        let lines = Lines { function: function.name, ..Lines::default() };
+        Self { function, many, seen: HashSet::new(), lines }
     }
 
     /// Stores the answer at arguments that have none yet, if both sides give the same.
@@ -206,9 +206,9 @@ impl List {
             Demand::SameFormula => answers.differ_by_elementary(),
         };
         if answers.apart() == 0 {
-            self.lines.push(answers.line());
+            self.lines.lines.push(answers.line());
         } else if is_allowed {
-            self.left_out += 1;
+            self.lines.left_out += 1;
         } else {
             let (name, at) = (self.function.name, answers.arguments());
             return Err(format!("{name}: ours differs at {at}, by more than is allowed"));
@@ -226,7 +226,7 @@ impl List {
     fn fill(&mut self, random: &mut Random) -> Result<(), String> {
         // Ten times as many draws as a list could need, so that this ends in any case.
         for range in ranges(self.function).into_iter().cycle().take(10 * self.many) {
-            if self.lines.len() >= self.many {
+            if self.lines.lines.len() >= self.many {
                 return Ok(());
             }
             let arguments = (range.draw)(random);
@@ -238,9 +238,5 @@ impl List {
             }
         }
         Err(format!("{}: ours differ far too often", self.function.name))
-    }
-
-    fn lines(self) -> Lines {
-        Lines { function: self.function.name, lines: self.lines, left_out: self.left_out }
     }
 }

@@ -29,16 +29,9 @@ const DEPTH: usize = 10;
 /// A row of each depth and of each number of columns. Says where the answers differ.
 pub fn table(seed: u64) -> Result<Table, String> {
     let mut random = Random::new(seed);
-    let head = [
-        "what",
-        "how many",
-        "Rust, ns",
-        "ours, ns",
-        "ratio",
-        "Rust, ns for one",
-        "ours, ns for one",
-    ];
-    let mut table = Table::new(&head, 1..7);
+    let head =
+        "what | how many | Rust, ns | ours, ns | ratio | Rust, ns for one | ours, ns for one";
+    let mut table = Table::new(head, 1..7);
     let timed: Vec<Timed> = DEPTHS.iter().map(|&depth| in_a_file(depth, &mut random)).collect();
     for (depth, line) in DEPTHS.into_iter().zip(measured(&timed)?) {
         table.row(row("observations of a column", depth, &line));

@@ -3,10 +3,6 @@
 use super::cause::Cause;
 use crate::counts::{Counts, table};
 
-/// The names of the counts: all that differ, and those of them in which the call does.
-pub const DIFFER: &str = "reports";
-const CALLS: &str = "another call";
-
 pub struct Known {
     lines: Vec<Line>,
 }
@@ -14,6 +10,7 @@ pub struct Known {
 struct Line {
     cause: Cause,
     name: String,
+    /// All that differ, and those of them in which the call does.
     counts: Counts,
     /// The first one, and the first in which the call differs.
     example: Option<String>,
@@ -37,8 +34,8 @@ impl Known {
     pub fn count(&mut self, cause: Cause, another_call: bool, example: impl Fn() -> String) {
         let line = self.lines.iter_mut().find(|line| line.cause == cause);
         let line = line.expect("each known cause has a line");
-        line.counts.one(DIFFER);
-        line.counts.add(CALLS, another_call);
+        line.counts.one("reports");
+        line.counts.add("another call", another_call);
         line.example.get_or_insert_with(&example);
         if another_call {
             line.called.get_or_insert_with(example);
@@ -58,7 +55,7 @@ impl Known {
     pub fn lines(&self) -> impl Iterator<Item = (&str, u64, &String)> {
         self.lines.iter().filter_map(|line| {
             let example = line.called.as_ref().or(line.example.as_ref())?;
-            Some((&line.name[..], line.counts.of(DIFFER), example))
+            Some((&line.name[..], line.counts.of("reports"), example))
         })
     }
 
@@ -69,7 +66,7 @@ impl Known {
 
     pub fn print(&self) {
         let lines = self.lines.iter().map(|line| (&line.name[..], &line.counts));
-        print!("{}", table("known difference", &[DIFFER, CALLS], lines).aligned());
+        print!("{}", table("known difference | reports | another call", lines).aligned());
     }
 
     pub fn print_examples(&self) {

@@ -17,8 +17,7 @@ use crate::counts::{Counts, table};
 const CHOSEN: &str = "chosen one by one";
 
 /// What is printed of the states of a kind. Known are those reports that differ whose causes all are.
-const NAMES: [&str; 7] =
-    ["builders", "reports", "unanimous", "multibase", "N called", "differ", "known"];
+const HEAD: &str = "state | builders | reports | unanimous | multibase | N called | differ | known";
 
 /// What came out of comparing many builders.
 #[derive(Default)]
@@ -129,7 +128,7 @@ impl Tally {
 
     pub fn print(&self) {
         let names = KINDS.iter().map(|kind| kind.name).chain([CHOSEN]);
-        print!("{}", table("state", &NAMES, names.zip(&self.kinds)).aligned());
+        print!("{}", table(HEAD, names.zip(&self.kinds)).aligned());
         self.known.print();
         self.known.print_examples();
         self.totals.print();

@@ -31,19 +31,14 @@ impl Totals {
     }
 
     pub fn print(&self) {
-        let example = |example: &Option<String>| {
-            example.as_ref().map_or(String::new(), |example| format!(", for example {example}"))
+        let told = |text: &str, example: &Option<String>| {
+            let example = example.iter().map(|example| format!(", for example {example}"));
+            println!("builders: {}{}", self.counts.told(text), example.collect::<String>());
         };
-        println!(
-            "builders: {} builders refused observations (11), which the Rust was spared{}",
-            self.counts.of("refused"),
-            example(&self.refused)
-        );
-        println!(
-            "builders: {} reports of counts that total 2^32 or more, {} of them 0 by 2^32{}",
-            self.counts.of("wrapped"),
-            self.counts.of("wrapped to 0"),
-            example(&self.wrapped)
-        );
+        let refused = "{refused} builders refused observations (11), which the Rust was spared";
+        told(refused, &self.refused);
+        let wrapped = "{wrapped} reports of counts that total 2^32 or more, {wrapped to 0} of them 0 by \
+                       2^32";
+        told(wrapped, &self.wrapped);
     }
 }

@@ -24,20 +24,10 @@ pub struct Place {
     pub rule: u8,
 }
 
-/// What is printed of the columns of a kind. Near-ties are those where each rule names another lane,
-/// or one of them none.
-const NAMES: [&str; 10] = [
-    "how many",
-    "deepest",
-    "reports",
-    "unanimous",
-    "multibase",
-    "neither",
-    "N called",
-    "rules differ",
-    "not finite",
-    "differ",
-];
+/// What is printed of the columns of a kind. The rules differ in near-ties: each names another lane, or
+/// one of them none.
+const HEAD: &str = "columns | how many | deepest | reports | unanimous | multibase | neither | \
+                    N called | rules differ | not finite | differ";
 
 /// What came out of comparing many reports.
 #[derive(Default)]
@@ -154,7 +144,7 @@ impl Tally {
         let sum = self.sum();
         let names = KINDS.iter().map(|kind| kind.name).chain(["all"]);
         let lines = names.zip(self.kinds.iter().chain([&sum]));
-        print!("{}", table("columns", &NAMES, lines).aligned());
+        print!("{}", table(HEAD, lines).aligned());
         print!("{}", self.fields_table().aligned());
         for example in self.examples() {
             println!("{example}");
@@ -173,12 +163,12 @@ impl Tally {
         );
         self.ways.print();
         self.observed.print("histories");
-        let [pre, post] = ["pre rates", "post rates"].map(|name| self.scripts.of(name));
-        println!("histories: {pre} pre rates and {post} post rates");
+        let rates = "histories: {pre rates} pre rates and {post rates} post rates";
+        println!("{}", self.scripts.told(rates));
     }
 
     fn fields_table(&self) -> Table {
-        let mut table = Table::new(&["a report's", "reports that differ"], 1..2);
+        let mut table = Table::new("a report's | reports that differ", 1..2);
         for (field, tally) in Field::ALL.into_iter().zip(&self.fields) {
             table.row(vec![field.name().to_owned(), tally.differing.to_string()]);
         }

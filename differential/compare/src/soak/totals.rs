@@ -77,7 +77,7 @@ impl Totals {
     pub fn print(&self) {
         self.builders.known.print_examples();
         files::tally::print_known(&self.files);
-        let mut table = Table::new(&["in all rounds", "how many"], 1..2);
+        let mut table = Table::new("in all rounds | how many", 1..2);
         for (name, count) in self.lines() {
             table.row(vec![name, count.to_string()]);
         }

@@ -9,8 +9,8 @@ pub use crate::counts::Row;
 use crate::counts::{all_demanded, digits, examples, table_of};
 
 /// What is printed of a row: how often each reply was demanded.
-const NAMES: [&str; 13] =
-    ["how many", "calls", "accepted", "1", "2", "5", "6", "7", "8", "9", "10", "absent", "differ"];
+const HEAD: &str =
+    "sets | how many | calls | accepted | 1 | 2 | 5 | 6 | 7 | 8 | 9 | 10 | absent | differ";
 
 impl Row {
     pub fn count_rates(&mut self, Rates { pre, post, quality }: Rates) {
@@ -81,27 +81,23 @@ impl Row {
 /// Prints what came out, and says whether nothing differs and every reply was demanded.
 pub fn print(rows: &[Row]) -> bool {
     let all = Row::sum(rows);
-    let of = |name| all.counts.of(name);
-    let (pre, post, qualities) = (of("pre rates"), of("post rates"), of("qualities"));
-    println!("umis: {pre} pre rates, {post} post rates and {qualities} qualities");
-    print!("{}", table_of("sets", &NAMES, rows, &all).aligned());
+    let counts = &all.counts;
+    let rates = "umis: {pre rates} pre rates, {post rates} post rates and {qualities} qualities";
+    println!("{}", counts.told(rates));
+    print!("{}", table_of(HEAD, rows, &all).aligned());
     examples("umis", rows).iter().for_each(|example| println!("{example}"));
-    let [accepted, first, second, with_n, counted] =
-        ["accepted", "first flag", "second flag", "with N", "counted"].map(of);
-    println!(
-        "umis: of {accepted} accepted, {first} with the first flag, {second} with the second, {with_n} \
-         with an N, {counted} with a builder that has counted"
-    );
+    let accepted = "umis: of {accepted} accepted, {first flag} with the first flag, {second flag} with \
+                    the second, {with N} with an N, {counted} with a builder that has counted";
+    println!("{}", counts.told(accepted));
     let others = [
-        ("an answer", accepted),
-        ("the first flag", first),
-        ("the second flag", second),
-        ("an N", with_n),
-        ("a builder that has counted", counted),
-        ("0, of no function", of("absent")),
+        ("an answer", counts.of("accepted")),
+        ("the first flag", counts.of("first flag")),
+        ("the second flag", counts.of("second flag")),
+        ("an N", counts.of("with N")),
+        ("a builder that has counted", counts.of("counted")),
+        ("0, of no function", counts.of("absent")),
     ];
-    let demanded = all_demanded("umis: never demanded", &all.counts.of_numbers(&NUMBERS), &others);
-    let [sets, calls, differ] = ["how many", "calls", "differ"].map(of);
-    println!("umis: {sets} sets, {calls} calls compared; {differ} differ");
-    differ == 0 && demanded
+    let demanded = all_demanded("umis: never demanded", &counts.of_numbers(&NUMBERS), &others);
+    println!("{}", counts.told("umis: {how many} sets, {calls} calls compared; {differ} differ"));
+    counts.of("differ") == 0 && demanded
 }

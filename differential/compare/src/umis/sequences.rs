@@ -137,36 +137,29 @@ impl Sequences {
     /// Prints what came out, and says whether nothing differs and all that is to be shown was shown.
     pub fn print(&self) -> bool {
         self.0.example.words().iter().for_each(|example| println!("{example}"));
-        let of = |name| self.0.counts.of(name);
-        let [accepted, left_by_accepted, left_by_refused] =
-            ["accepted", "left by accepted", "left by refused"].map(of);
+        let counts = &self.0.counts;
         // 10 is no set's: the buffer is tested for the whole sequence
-        let mut refused = self.0.counts.of_numbers(&NUMBERS);
+        let mut refused = counts.of_numbers(&NUMBERS);
         refused.retain(|(number, _)| *number != TOO_SHORT);
         let occurred: Vec<(u64, u64)> =
             refused.iter().copied().filter(|(_, count)| *count > 0).collect();
-        println!(
-            "umis: {} sequences of {} sets, each on one caller: {accepted} sets accepted, refused {}; \
-             {left_by_accepted} accepted and {left_by_refused} refused ones leave a builder that is not \
-             new as it is",
-            of("sequences"),
-            of("sets"),
-            refused_in_words(&occurred),
-        );
-        let [calls, no_function, cut_off, too_short, differ] =
-            ["calls", "no function", "cut off", "too short", "differ"].map(of);
-        println!(
-            "umis: {calls} calls of consensus_umi_sets, refused whole {no_function} for the function, \
-             {cut_off} for a length, {too_short} for the buffer; {differ} differ",
-        );
+        let sets = "umis: {sequences} sequences of {sets} sets, each on one caller: {accepted} sets \
+                    accepted, refused ";
+        let left = "; {left by accepted} accepted and {left by refused} refused ones leave a builder \
+                    that is not new as it is";
+        println!("{}{}{}", counts.told(sets), refused_in_words(&occurred), counts.told(left));
+        let calls = "umis: {calls} calls of consensus_umi_sets, refused whole {no function} for the \
+                     function, {cut off} for a length, {too short} for the buffer; {differ} differ";
+        println!("{}", counts.told(calls));
         let others = [
-            ("an answer", accepted),
-            ("a builder that is left by an accepted set", left_by_accepted),
-            ("a builder that is left by a refused set", left_by_refused),
-            ("0, of no function", no_function),
-            ("0, for a length", cut_off),
-            ("0, for too short a buffer", too_short),
+            ("an answer", counts.of("accepted")),
+            ("a builder that is left by an accepted set", counts.of("left by accepted")),
+            ("a builder that is left by a refused set", counts.of("left by refused")),
+            ("0, of no function", counts.of("no function")),
+            ("0, for a length", counts.of("cut off")),
+            ("0, for too short a buffer", counts.of("too short")),
         ];
-        all_demanded("umis: never demanded of a sequence", &refused, &others) && differ == 0
+        let demanded = all_demanded("umis: never demanded of a sequence", &refused, &others);
+        counts.of("differ") == 0 && demanded
     }
 }
