@@ -1,56 +1,35 @@
-//! The arguments that the functions are compared at.
+//! The arguments that the functions are compared at: what they are, and those that are chosen one by
+//! one.
+
+use std::f64::consts::{LN_2, LN_10};
 
 use oracle::phred::{MAX_PHRED, phred_to_ln_error_prob};
 
-use crate::function::Function;
-use crate::random::Random;
+use crate::function::{Function, Takes};
+use crate::lists::lists;
 
-/// A way to draw arguments.
+/// How many lanes most arrays have, and how many any has at most.
+pub const USUAL_LANES: usize = 4;
+pub const MOST_LANES: usize = 8;
+
+/// The arguments of a call, or the lanes of an array. What lies beside them is NaN, so that the
+/// answer shows whether a lane was read from there.
 #[derive(Clone, Copy)]
-pub enum Draw {
-    /// Evenly between two numbers, both of them included.
-    Evenly(f64, f64),
-    /// Between two positive numbers, each power of two as likely as any other.
-    ByExponent(f64, f64),
-    /// The same, with either sign.
-    EitherSign(f64, f64),
-    /// One of these numbers or its negative, or up to 2^44 places off.
-    Beside(&'static [f64]),
-    /// Any bit pattern, infinities and NaNs among them.
-    AnyBits,
+pub struct Arguments {
+    places: [f64; MOST_LANES + 2],
+    count: usize,
 }
 
-impl Draw {
-    pub fn next(self, random: &mut Random) -> f64 {
-        match self {
-            Self::Evenly(low, high) => random.between(low, high),
-            Self::ByExponent(low, high) => by_exponent(random, low, high),
-            Self::EitherSign(low, high) => {
-                let magnitude = by_exponent(random, low, high);
-                random.signed(magnitude)
-            }
-            Self::Beside(numbers) => {
-                let number = numbers[random.below(numbers.len() as u64) as usize];
-                let beside = beside(random, number);
-                random.signed(beside)
-            }
-            Self::AnyBits => f64::from_bits(random.bits()),
-        }
+impl Arguments {
+    pub fn new(values: &[f64]) -> Self {
+        let mut places = [f64::NAN; MOST_LANES + 2];
+        places[1..=values.len()].copy_from_slice(values);
+        Self { places, count: values.len() }
     }
-}
 
-fn by_exponent(random: &mut Random, low: f64, high: f64) -> f64 {
-    let (low, high) = (low.to_bits(), high.to_bits());
-    f64::from_bits(low + random.below(high - low + 1))
-}
-
-/// A number some places above or below, near ones as likely as far ones.
-pub fn beside(random: &mut Random, number: f64) -> f64 {
-    let reach = 1_u64 << random.below(45);
-    let places = random.below(reach);
-    let bits = number.to_bits();
-    let up = random.below(2) == 0;
-    f64::from_bits(if up { bits.wrapping_add(places) } else { bits.wrapping_sub(places) })
+    pub fn values(&self) -> &[f64] {
+        &self.places[1..=self.count]
+    }
 }
 
 /// Values that a definition must name one by one; each stands for its negative, too.
@@ -59,7 +38,7 @@ const SPECIAL: [f64; 7] =
 
 /// Where one of the functions goes over from one way of computing to another, or its answer to
 /// infinity, to a subnormal number or to 0; each stands for its negative, too.
-pub const LIMITS: [f64; 14] = [
+pub const ELEMENTARY_LIMITS: [f64; 14] = [
     709.79,                                // exp: infinite above
     709.782_712_893_384,                   // exp: about the last finite answer
     708.396_418_532_264_1,                 // exp of the negative: about the last normal answer
@@ -88,8 +67,8 @@ pub fn neighbours_of_special_values() -> Vec<f64> {
 
 /// Each limit, and the numbers just below and just above it.
 pub fn limits_and_neighbours() -> Vec<f64> {
-    let neighbours = LIMITS.into_iter().flat_map(neighbours);
-    LIMITS.into_iter().chain(neighbours).flat_map(both_signs).collect()
+    let neighbours = ELEMENTARY_LIMITS.into_iter().flat_map(neighbours);
+    ELEMENTARY_LIMITS.into_iter().chain(neighbours).flat_map(both_signs).collect()
 }
 
 pub fn neighbours(x: f64) -> [f64; 2] {
@@ -115,54 +94,117 @@ pub fn negative_powers_of_two() -> Vec<f64> {
     (1..=70).map(|k| 0.5_f64.powi(k)).flat_map(both_signs).collect()
 }
 
-/// Arguments that are drawn, and by how much an answer may differ from the Rust's there.
-pub struct Range {
-    pub name: &'static str,
-    pub draw: Draw,
-    /// In units in the last place.
-    pub allowed: u64,
+/// The same of the functions of phred.rs.
+pub const PHRED_LIMITS: [f64; 8] = [
+    37.0,                    // log1pexp of the negative: up to here by exp alone
+    18.0,                    // log1pexp: up to here by ln_1p
+    33.3,                    // log1pexp: x above
+    LN_2,                    // ln_one_minus_exp of the negative: from here by exp_m1
+    93.0 * LN_10 / 10.0,     // ln_prob_to_phred of the negative: 93 below
+    6.0,                     // two trials: the larger one, where they are so far apart
+    f64::EPSILON,            // ln_a_minus_b: as of equals, where they are closer than this
+    0.405_465_108_108_164_4, // two trials: ln(3/2), above which equal ones panic
+];
+
+/// Lanes that a sum must take account of one by one.
+const SPECIAL_LANES: [f64; 12] = [
+    f64::NAN,
+    f64::NEG_INFINITY,
+    f64::INFINITY,
+    f64::MIN,
+    f64::MAX,
+    -33.3,
+    -18.0,
+    -6.0,
+    -1.0,
+    -0.0,
+    0.0,
+    1.0,
+];
+
+/// NaN, the zeros, the infinities, 1 and -1, the least and the largest numbers, the limits, and the
+/// numbers just below and just above each.
+pub fn special_numbers() -> Vec<f64> {
+    let limits = PHRED_LIMITS.into_iter().chain(PHRED_LIMITS.into_iter().flat_map(neighbours));
+    let mut numbers = special_values();
+    numbers.extend(neighbours_of_special_values());
+    numbers.extend(limits.flat_map(both_signs));
+    numbers.sort_by(f64::total_cmp);
+    numbers.dedup_by_key(|number| number.to_bits());
+    numbers
 }
 
-/// The ranges of a function, the one in which the caller uses it first.
-///
-/// One unit is allowed, with one exception: above half of ln 2, where the caller has no use for it,
-/// our exp_m1 is exp less 1, which costs up to one unit more.
-pub fn ranges(function: &Function) -> Vec<Range> {
-    let least = f64::from_bits(1);
-    let range = |name, draw, allowed| Range { name, draw, allowed };
-    let beside_zero = Draw::EitherSign(0.5_f64.powi(62), 1.0);
-    let beside_limits = Draw::Beside(&LIMITS);
-    let mut ranges = match function.letter {
-        b'e' => vec![
-            range("[-30, 0]", Draw::Evenly(-30.0, 0.0), 1),
-            range("[-746, 710]", Draw::Evenly(-746.0, 710.0), 1),
-            range("beside 0", beside_zero, 1),
-            range("beside a limit", beside_limits, 1),
-        ],
-        b'l' => vec![
-            range("(0, 4]", Draw::Evenly(least, 4.0), 1),
-            range("beside 1 and -1", Draw::Beside(&[1.0]), 1),
-            range("(0, infinity)", Draw::ByExponent(least, f64::MAX), 1),
-            range("beside a limit", beside_limits, 1),
-        ],
-        b'p' => vec![
-            range("[-1, 3]", Draw::Evenly(-1.0, 3.0), 1),
-            range("beside 0", beside_zero, 1),
-            range("beside 1 and -1", Draw::Beside(&[1.0]), 1),
-            range("(0, infinity)", Draw::ByExponent(least, f64::MAX), 1),
-            range("beside a limit", beside_limits, 1),
-        ],
-        b'm' => vec![
-            range("[-0.7, 0]", Draw::Evenly(-0.7, 0.0), 1),
-            range("[-2, 0]", Draw::Evenly(-2.0, 0.0), 1),
-            range("[0, 2]", Draw::Evenly(0.0, 2.0), 2),
-            range("[-746, 710]", Draw::Evenly(-746.0, 710.0), 2),
-            range("beside 0", beside_zero, 2),
-            range("beside a limit", beside_limits, 2),
-        ],
-        letter => unreachable!("no function has the letter {}", letter as char),
+/// The logarithm of the error at each level, those above 93 too.
+fn all_phred_points() -> Vec<f64> {
+    (0..=u8::MAX).map(phred_to_ln_error_prob).collect()
+}
+
+pub fn each(numbers: &[f64]) -> Vec<Arguments> {
+    arrays(numbers, 1)
+}
+
+pub fn each_pair(numbers: &[f64]) -> Vec<Arguments> {
+    arrays(numbers, 2)
+}
+
+/// Every array of so many of these numbers.
+pub fn arrays(numbers: &[f64], lanes: usize) -> Vec<Arguments> {
+    lists(numbers, lanes as u32).map(|lanes| Arguments::new(&lanes)).collect()
+}
+
+/// Every array of up to four special lanes.
+fn special_lanes() -> Vec<Arguments> {
+    (0..=USUAL_LANES).flat_map(|lanes| arrays(&SPECIAL_LANES, lanes)).collect()
+}
+
+/// Arrays of which one lane alone is above -infinity, and so is the answer: of each length, each
+/// lane.
+fn single_lanes() -> Vec<Arguments> {
+    let single = |lanes: usize, place: usize| {
+        let mut values = vec![f64::NEG_INFINITY; lanes];
+        values[place] = -1.0 - place as f64;
+        Arguments::new(&values)
     };
-    let allowed = ranges.iter().map(|range| range.allowed).max().unwrap_or(0);
-    ranges.push(range("any bit pattern", Draw::AnyBits, allowed));
-    ranges
+    (0..=MOST_LANES).flat_map(|lanes| (0..lanes).map(move |place| single(lanes, place))).collect()
+}
+
+/// Arguments that are chosen, by how many units in the last place an answer may differ there.
+pub struct Chosen {
+    pub name: &'static str,
+    pub allowed: u64,
+    pub arguments: Vec<Arguments>,
+}
+
+/// The chosen arguments of an elementary function.
+pub fn chosen_of_elementary() -> Vec<Chosen> {
+    let chosen =
+        |name, allowed, numbers: Vec<f64>| Chosen { name, allowed, arguments: each(&numbers) };
+    vec![
+        chosen("beside a special value", 1, neighbours_of_special_values()),
+        chosen("special values", 0, special_values()),
+    ]
+}
+
+/// The chosen arguments of a function of phred.rs.
+pub fn chosen(function: &Function) -> Vec<Chosen> {
+    let chosen = |name, arguments| Chosen { name, allowed: 0, arguments };
+    match function.takes {
+        Takes::Level => vec![chosen("all levels", each(&levels()))],
+        Takes::Number => vec![
+            chosen("special values and limits", each(&special_numbers())),
+            chosen("Phred points", each(&all_phred_points())),
+        ],
+        Takes::Pair => vec![
+            chosen("special values and limits, each pair", each_pair(&special_numbers())),
+            chosen("Phred points, each pair", each_pair(&all_phred_points())),
+        ],
+        Takes::Lanes => vec![
+            chosen("special values, 0 to 4 lanes", special_lanes()),
+            chosen("one lane above -infinity", single_lanes()),
+        ],
+    }
+}
+
+fn levels() -> Vec<f64> {
+    (0..=u8::MAX).map(f64::from).collect()
 }

@@ -9,7 +9,7 @@ use std::hint::black_box;
 use std::time::Instant;
 
 use crate::environment;
-use crate::exports::{consensus_exp, consensus_exp_m1, consensus_ln, consensus_ln_1p};
+use crate::exports;
 use crate::random::Random;
 use crate::table::Table;
 
@@ -31,6 +31,18 @@ struct Line {
 }
 
 impl Line {
+    /// By the seconds that so many took, the Rust's first.
+    fn new(
+        function: &'static str,
+        arguments: impl Into<String>,
+        measure: &'static str,
+        seconds: [f64; 2],
+        many: usize,
+    ) -> Self {
+        let [rust, ours] = seconds.map(|seconds| seconds * 1e9 / many as f64);
+        Self { function, arguments: arguments.into(), measure, rust, ours }
+    }
+
     /// The better times of two rounds.
     fn better(self, other: Self) -> Self {
         Self { rust: self.rust.min(other.rust), ours: self.ours.min(other.ours), ..self }
@@ -95,13 +107,13 @@ fn of_sequences(seed: u64) -> Result<Vec<Line>, String> {
 fn round(seed: u64) -> Vec<Line> {
     let mut random = Random::new(seed);
     let mut lines = Vec::new();
-    lines.extend(both("exp", (-30.0, 0.0), &mut random, f64::exp, |x| consensus_exp(x)));
-    lines.extend(both("ln", (0.0, 0.9), &mut random, f64::ln, |x| consensus_ln(x)));
+    lines.extend(both("exp", (-30.0, 0.0), &mut random, f64::exp, |x| exports::exp(x)));
+    lines.extend(both("ln", (0.0, 0.9), &mut random, f64::ln, |x| exports::ln(x)));
     for range in [(0.0, 0.4), (0.5, 1.0)] {
-        lines.extend(both("ln_1p", range, &mut random, f64::ln_1p, |x| consensus_ln_1p(x)));
+        lines.extend(both("ln_1p", range, &mut random, f64::ln_1p, |x| exports::ln_1p(x)));
     }
     for range in [(-0.34, 0.0), (-0.69, -0.35)] {
-        lines.extend(both("exp_m1", range, &mut random, f64::exp_m1, |x| consensus_exp_m1(x)));
+        lines.extend(both("exp_m1", range, &mut random, f64::exp_m1, |x| exports::exp_m1(x)));
     }
     lines
 }
@@ -115,15 +127,10 @@ fn both(
     ours: impl Fn(f64) -> f64,
 ) -> [Line; 2] {
     let arguments: Vec<f64> = (0..ARGUMENTS).map(|_| random.between(low, high)).collect();
-    let line = |measure, (rust, ours)| Line {
-        function,
-        arguments: format!("{low} to {high}"),
-        measure,
-        rust,
-        ours,
-    };
-    let throughput = fastest(|| sum(&arguments, &rust), || sum(&arguments, &ours));
-    let latency = fastest(|| chain(&arguments, &rust), || chain(&arguments, &ours));
+    let line =
+        |measure, best| Line::new(function, format!("{low} to {high}"), measure, best, ARGUMENTS);
+    let throughput = fastest(RUNS, || sum(&arguments, &rust), || sum(&arguments, &ours));
+    let latency = fastest(RUNS, || chain(&arguments, &rust), || chain(&arguments, &ours));
     [line("throughput", throughput), line("latency", latency)]
 }
 
@@ -139,15 +146,18 @@ fn chain(arguments: &[f64], function: impl Fn(f64) -> f64) -> f64 {
     arguments.iter().fold(0.0, |answer, &x| function(x + answer * zero))
 }
 
-/// Nanoseconds a call of the fastest run of each side, the sides taking turns.
-fn fastest(rust: impl Fn() -> f64, ours: impl Fn() -> f64) -> (f64, f64) {
-    let mut best = (f64::INFINITY, f64::INFINITY);
-    for _ in 0..RUNS {
-        best.0 = best.0.min(seconds(&rust));
-        best.1 = best.1.min(seconds(&ours));
+/// The fastest of so many runs of each side in seconds, the Rust's first, the sides taking turns.
+fn fastest<R, O>(
+    runs: usize,
+    mut rust: impl FnMut() -> R,
+    mut ours: impl FnMut() -> O,
+) -> [f64; 2] {
+    let mut best = [f64::INFINITY; 2];
+    for _ in 0..runs {
+        best[0] = best[0].min(seconds(&mut rust));
+        best[1] = best[1].min(seconds(&mut ours));
     }
-    let nanoseconds_a_call = 1e9 / ARGUMENTS as f64;
-    (best.0 * nanoseconds_a_call, best.1 * nanoseconds_a_call)
+    best
 }
 
 fn seconds<T>(run: impl FnOnce() -> T) -> f64 {
@@ -158,7 +168,7 @@ fn seconds<T>(run: impl FnOnce() -> T) -> f64 {
 
 fn table(lines: &[Line]) -> Table {
     let mut table =
-        Table::new(&["function", "arguments", "measure", "Rust, ns", "ours, ns", "ratio"], 3..6);
+        Table::new("function | arguments | measure | Rust, ns | ours, ns | ratio", 3..6);
     for line in lines {
         table.row(vec![
             line.function.to_owned(),

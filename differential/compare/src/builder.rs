@@ -3,6 +3,7 @@
 pub mod cause;
 pub mod draws;
 pub mod formula;
+pub mod known;
 pub mod observed;
 pub mod refused;
 pub mod report;

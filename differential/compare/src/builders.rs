@@ -1,8 +1,8 @@
 //! Builders of any state, ours beside the Rust's: also those that no list of observations gives.
 
-mod known;
 mod states;
 pub mod tally;
+mod totals;
 pub mod vectors;
 
 use self::states::{KINDS, chosen};

@@ -4,23 +4,35 @@ use crate::builder::Settings;
 use crate::builder::sides::Way;
 use crate::umis::function::Rates;
 
-unsafe extern "C" {
-    pub safe fn consensus_exp(x: f64) -> f64;
-    pub safe fn consensus_ln(x: f64) -> f64;
-    pub safe fn consensus_ln_1p(x: f64) -> f64;
-    pub safe fn consensus_exp_m1(x: f64) -> f64;
+/// Functions that take numbers alone, each by the name that the Rust has for it.
+macro_rules! of_numbers {
+    ($($name:ident($($x:ident: $type:ty),*) -> $answer:ty;)*) => {
+        unsafe extern "C" {$(
+            #[link_name = concat!("consensus_", stringify!($name))]
+            pub safe fn $name($($x: $type),*) -> $answer;
+        )*}
+    };
+}
 
-    pub safe fn consensus_phred_to_ln_error_prob(q: u8) -> f64;
-    pub safe fn consensus_phred_to_ln_correct_prob(q: u8) -> f64;
-    pub safe fn consensus_ln_prob_to_phred(p: f64) -> u8;
-    pub safe fn consensus_log1pexp(x: f64) -> f64;
-    pub safe fn consensus_ln_one_minus_exp(x: f64) -> f64;
-    pub safe fn consensus_ln_a_minus_b(a: f64, b: f64) -> f64;
-    pub safe fn consensus_ln_error_prob_two_trials(p: f64, q: f64) -> f64;
-    pub safe fn consensus_ln_sum_exp(a: f64, b: f64) -> f64;
+of_numbers! {
+    exp(x: f64) -> f64;
+    ln(x: f64) -> f64;
+    ln_1p(x: f64) -> f64;
+    exp_m1(x: f64) -> f64;
+    phred_to_ln_error_prob(q: u8) -> f64;
+    phred_to_ln_correct_prob(q: u8) -> f64;
+    ln_prob_to_phred(p: f64) -> u8;
+    log1pexp(x: f64) -> f64;
+    ln_one_minus_exp(x: f64) -> f64;
+    ln_a_minus_b(a: f64, b: f64) -> f64;
+    ln_error_prob_two_trials(p: f64, q: f64) -> f64;
+    ln_sum_exp(a: f64, b: f64) -> f64;
+    ln_normalize(value: f64, norm: f64) -> f64;
+    ln_not(x: f64) -> f64;
+}
+
+unsafe extern "C" {
     fn consensus_ln_sum_exp_array(values: *const f64, length: usize) -> f64;
-    pub safe fn consensus_ln_normalize(value: f64, norm: f64) -> f64;
-    pub safe fn consensus_ln_not(x: f64) -> f64;
 
     fn consensus_tables(pre: u8, post: u8, out: *mut u8, length: usize) -> u64;
 

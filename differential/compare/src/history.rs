@@ -97,7 +97,7 @@ fn read_state(digits: &str) -> Result<StateBytes, String> {
 }
 
 fn table(ours: &Report, rust: &Report) -> Table {
-    let mut table = Table::new(&["", "ours", "the Rust's", ""], 1..1);
+    let mut table = Table::new(" | ours | the Rust's | ", 1..1);
     for field in Field::ALL {
         let same = ours.field(field) == rust.field(field);
         table.row(vec![

@@ -1,6 +1,5 @@
 //! Runs the Rust and the proved library on the same inputs and compares the answers.
 
-use std::path::PathBuf;
 use std::process::ExitCode;
 use std::{env, io};
 
@@ -10,6 +9,7 @@ mod arguments;
 mod bench;
 mod builder;
 mod builders;
+mod counts;
 mod difference;
 mod elementary;
 mod environment;
@@ -19,8 +19,11 @@ mod function;
 mod hexadecimal;
 mod histories;
 mod history;
+mod lists;
+mod outcome;
 mod phred;
 mod random;
+mod ranges;
 mod recorded;
 mod soak;
 mod table;
@@ -42,107 +45,66 @@ usage: compare elementary [--arguments N] [--seed N]   the four elementary funct
        compare bench [--markdown] [--seed N]           times, the Rust's beside ours
 The seed is also taken from the variable DIFFERENTIAL_SEED.";
 
-/// How many arguments of each range are compared, how many histories, how many builders, how many
-/// drawn string sets, how many drawn column files, how many minutes, and the seed, where nothing else
-/// is asked.
-const ARGUMENTS: u64 = 1_000_000;
-const HISTORIES: u64 = 1_000_000;
-const BUILDERS: u64 = 20_000;
-const SETS: u64 = 20_000;
-const FILES: u64 = 20_000;
-const MINUTES: u64 = 60;
-const SEED: u64 = 1;
-
-/// What is to be done.
-enum Command {
-    Elementary,
-    Phred,
-    Tables,
-    Histories,
-    Builders,
-    Umis,
-    Files,
-    Soak,
-    History(Again),
-    Vectors(PathBuf),
-    Bench,
-}
+/// The options that have a number, and what it is where nothing else is asked: how many arguments of
+/// each range are compared, how many histories, how many builders, how many drawn string sets, how many
+/// drawn column files, how many minutes, and the seed.
+const NUMBERS: [(&str, u64); 7] = [
+    ("--arguments", 1_000_000),
+    ("--histories", 1_000_000),
+    ("--builders", 20_000),
+    ("--sets", 20_000),
+    ("--files", 20_000),
+    ("--minutes", 60),
+    ("--seed", 1),
+];
 
 /// A command line, taken apart.
 struct Request {
-    command: Command,
-    arguments: u64,
-    histories: u64,
-    builders: u64,
-    sets: u64,
-    files: u64,
-    minutes: u64,
-    seed: u64,
+    words: Vec<String>,
+    /// As they stand in `NUMBERS`.
+    numbers: [u64; NUMBERS.len()],
     markdown: bool,
 }
 
 impl Request {
     fn read(mut line: impl Iterator<Item = String>) -> Result<Self, String> {
-        let mut seed = env::var("DIFFERENTIAL_SEED").map_or(Ok(SEED), |text| number(Some(text)))?;
-        let mut arguments = ARGUMENTS;
-        let mut histories = HISTORIES;
-        let mut builders = BUILDERS;
-        let mut sets = SETS;
-        let mut files = FILES;
-        let mut minutes = MINUTES;
-        let mut markdown = false;
-        let mut words = Vec::new();
+        let numbers = NUMBERS.map(|(_, usual)| usual);
+        let mut request = Self { words: Vec::new(), numbers, markdown: false };
+        if let Ok(seed) = env::var("DIFFERENTIAL_SEED") {
+            request.numbers[NUMBERS.len() - 1] = number(Some(seed))?;
+        }
         while let Some(word) = line.next() {
-            match word.as_str() {
-                "--arguments" => arguments = number(line.next())?,
-                "--histories" => histories = number(line.next())?,
-                "--builders" => builders = number(line.next())?,
-                "--sets" => sets = number(line.next())?,
-                "--files" => files = number(line.next())?,
-                "--minutes" => minutes = number(line.next())?,
-                "--seed" => seed = number(line.next())?,
-                "--markdown" => markdown = true,
-                option if option.starts_with('-') => return Err(format!("no option {option}")),
-                _ => words.push(word),
+            if let Some(place) = NUMBERS.iter().position(|(option, _)| *option == word) {
+                request.numbers[place] = number(line.next())?;
+            } else if word == "--markdown" {
+                request.markdown = true;
+            } else if word.starts_with('-') {
+                return Err(format!("no option {word}"));
+            } else {
+                request.words.push(word);
             }
         }
-        let command = command(&words)?;
-        Ok(Self { command, arguments, histories, builders, sets, files, minutes, seed, markdown })
+        Ok(request)
     }
 
-    /// Does what is asked, and says whether all is as demanded.
-    fn run(&self) -> io::Result<bool> {
-        match &self.command {
-            Command::Elementary => elementary::run(self.arguments, self.seed),
-            Command::Phred => Ok(phred::run(self.arguments, self.seed)),
-            Command::Tables => Ok(tables::run()),
-            Command::Histories => Ok(histories::run(self.histories, self.seed)),
-            Command::Builders => Ok(builders::run(self.builders, self.seed)),
-            Command::Umis => Ok(umis::run(self.sets, self.seed)),
-            Command::Files => Ok(files::run(self.files, self.seed)),
-            Command::Soak => soak::run(self.minutes, self.seed),
-            Command::History(again) => Ok(again.run()),
-            Command::Vectors(file) => vectors::write(file, self.seed),
-            Command::Bench => Ok(bench::run(self.seed, self.markdown)),
-        }
-    }
-}
-
-fn command(words: &[String]) -> Result<Command, String> {
-    let words: Vec<&str> = words.iter().map(String::as_str).collect();
-    match words[..] {
-        ["elementary"] => Ok(Command::Elementary),
-        ["phred"] => Ok(Command::Phred),
-        ["tables"] => Ok(Command::Tables),
-        ["histories"] => Ok(Command::Histories),
-        ["builders"] => Ok(Command::Builders),
-        ["umis"] => Ok(Command::Umis),
-        ["files"] => Ok(Command::Files),
-        ["soak"] => Ok(Command::Soak),
-        ["history", ref words @ ..] => Again::read(words).map(Command::History),
-        ["vectors", file] => Ok(Command::Vectors(file.into())),
-        ["bench"] => Ok(Command::Bench),
-        _ => Err("no such command".to_owned()),
+    /// Does what is asked, and says whether all is as demanded; or what is wrong with the words.
+    fn run(&self) -> Result<io::Result<bool>, String> {
+        let words: Vec<&str> = self.words.iter().map(String::as_str).collect();
+        let [arguments, histories, builders, sets, files, minutes, seed] = self.numbers;
+        Ok(match words[..] {
+            ["elementary"] => elementary::run(arguments, seed),
+            ["phred"] => Ok(phred::run(arguments, seed)),
+            ["tables"] => Ok(tables::run()),
+            ["histories"] => Ok(histories::run(histories, seed)),
+            ["builders"] => Ok(builders::run(builders, seed)),
+            ["umis"] => Ok(umis::run(sets, seed)),
+            ["files"] => Ok(files::run(files, seed)),
+            ["soak"] => soak::run(minutes, seed),
+            ["history", ref words @ ..] => Ok(Again::read(words)?.run()),
+            ["vectors", file] => vectors::write(file.as_ref(), seed),
+            ["bench"] => Ok(bench::run(seed, self.markdown)),
+            _ => return Err("no such command".to_owned()),
+        })
     }
 }
 
@@ -152,18 +114,15 @@ fn number(text: Option<String>) -> Result<u64, String> {
 }
 
 fn main() -> ExitCode {
-    let request = match Request::read(env::args().skip(1)) {
-        Ok(request) => request,
+    match Request::read(env::args().skip(1)).and_then(|request| request.run()) {
+        Ok(Ok(true)) => ExitCode::SUCCESS,
+        Ok(Ok(false)) => ExitCode::FAILURE,
+        Ok(Err(error)) => {
+            eprintln!("compare: {error}");
+            ExitCode::from(2)
+        }
         Err(problem) => {
             eprintln!("compare: {problem}\n{USAGE}");
-            return ExitCode::from(2);
-        }
-    };
-    match request.run() {
-        Ok(true) => ExitCode::SUCCESS,
-        Ok(false) => ExitCode::FAILURE,
-        Err(error) => {
-            eprintln!("compare: {error}");
             ExitCode::from(2)
         }
     }

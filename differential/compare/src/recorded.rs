@@ -5,10 +5,10 @@ use std::process::{Command, Stdio};
 
 use recorder::Call;
 
-use crate::function::FUNCTIONS;
+use crate::function::ELEMENTARY;
 
 /// Runs `recorder`, which is built beside this program, and hands each call on as it comes: the
-/// function's index in `FUNCTIONS`, the argument and the answer.
+/// function's index in `ELEMENTARY`, the argument and the answer.
 pub fn for_each(mut take: impl FnMut(usize, f64, f64)) -> io::Result<()> {
     let program = std::env::current_exe()?.with_file_name("recorder");
     let mut child = Command::new(&program)
@@ -25,8 +25,8 @@ pub fn for_each(mut take: impl FnMut(usize, f64, f64)) -> io::Result<()> {
 }
 
 /// The different arguments of each function, by their bit patterns from the least up.
-pub fn different_arguments() -> io::Result<[Vec<f64>; FUNCTIONS.len()]> {
-    let mut arguments: [Vec<f64>; FUNCTIONS.len()] = Default::default();
+pub fn different_arguments() -> io::Result<[Vec<f64>; ELEMENTARY.len()]> {
+    let mut arguments: [Vec<f64>; ELEMENTARY.len()] = Default::default();
     for_each(|index, argument, _| arguments[index].push(argument))?;
     for list in &mut arguments {
         list.sort_unstable_by_key(|argument| argument.to_bits());
@@ -42,6 +42,6 @@ fn read_call(input: &mut impl Read) -> io::Result<Call> {
 }
 
 fn index_of(letter: u8) -> usize {
-    let index = FUNCTIONS.iter().position(|function| function.letter == letter);
+    let index = ELEMENTARY.iter().position(|function| function.letter == letter);
     index.expect("the recorder has the same letters")
 }

@@ -33,7 +33,7 @@ pub fn run(minutes: u64, mut seed: u64) -> io::Result<bool> {
         seed = Random::new(seed).bits();
     }
     totals.print();
-    let holds = totals.unexplained() == 0;
+    let holds = totals.unexplained == 0;
     println!("soak: {}", if holds { "as demanded" } else { "FAILED" });
     Ok(holds)
 }

@@ -10,8 +10,9 @@ pub struct Table {
 }
 
 impl Table {
-    pub fn new(head: &[&str], numbers: Range<usize>) -> Self {
-        Self { rows: vec![head.iter().map(|&cell| cell.to_owned()).collect()], numbers }
+    /// With the cells of the head one after another, ` | ` between.
+    pub fn new(head: &str, numbers: Range<usize>) -> Self {
+        Self { rows: vec![head.split(" | ").map(str::to_owned).collect()], numbers }
     }
 
     pub fn row(&mut self, cells: Vec<String>) {

@@ -71,7 +71,7 @@ fn short_is_unchanged() -> bool {
 }
 
 fn print(differing: [u64; TABLES.len()]) {
-    let mut table = Table::new(&["table", "entries at all rates", "differ"], 1..3);
+    let mut table = Table::new("table | entries at all rates | differ", 1..3);
     for ((name, entries), differ) in TABLES.into_iter().zip(differing) {
         table.row(vec![name.to_owned(), (entries * 256).to_string(), differ.to_string()]);
     }

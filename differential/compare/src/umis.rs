@@ -16,7 +16,6 @@ mod rooms;
 pub mod row;
 pub mod rust;
 pub mod sequences;
-pub mod tally;
 
 use self::families::{FULL, KINDS, shape};
 use self::row::Row;
@@ -43,7 +42,7 @@ pub fn run(sets: u64, seed: u64) -> bool {
     rows.push(rooms::row(sets, &mut random));
     let mut sequences = Sequences::default();
     sequences.compare_all(sets / SETS_FOR_A_SEQUENCE, &mut random);
-    let holds = [tally::print(&rows), sequences.print(), characters::print()] == [true; 3];
+    let holds = [row::print(&rows), sequences.print(), characters::print()] == [true; 3];
     println!("umis: {}", if holds { "as demanded" } else { "FAILED" });
     holds
 }

@@ -5,7 +5,7 @@ use std::hint::black_box;
 use oracle::base_builder::ConsensusBaseBuilder;
 use oracle::base_builder::accessors::{adjusted_tables, call_full, gap_tables};
 
-use super::{Line, seconds};
+use super::{Line, fastest, seconds};
 use crate::builder::script::{ADD, CALL_FULL, REPORT, RESET, events};
 use crate::builder::{BASES, Settings, rule_of};
 use crate::exports;
@@ -63,13 +63,7 @@ struct Fastest {
 /// A line of each work and of each pair of rates. Says where the answers differ.
 pub fn lines(seed: u64) -> Result<Vec<Line>, String> {
     let mut lines = measured(&timed(&mut Random::new(seed)))?;
-    let mut tables = RATES.map(|_| [f64::INFINITY; 2]);
-    for _ in 0..ROUNDS {
-        for (rates, best) in RATES.into_iter().zip(&mut tables) {
-            build_tables(rates, best);
-        }
-    }
-    lines.extend(RATES.into_iter().zip(tables).map(|(rates, best)| tables_line(rates, best)));
+    lines.extend(RATES.map(tables_line));
     Ok(lines)
 }
 
@@ -157,15 +151,9 @@ impl Timed {
 
     /// What the further runs took: our side's first one builds the tables as well.
     fn line(&self, best: Fastest) -> Line {
-        let units = self.units as f64 * f64::from(self.more());
-        let [rust, ours] = [0, 1].map(|side| (best.more[side] - best.once[side]) * 1e9 / units);
-        Line {
-            function: self.function,
-            arguments: self.arguments.to_owned(),
-            measure: self.measure,
-            rust,
-            ours,
-        }
+        let further = [0, 1].map(|side| best.more[side] - best.once[side]);
+        let units = self.units * self.more() as usize;
+        Line::new(self.function, self.arguments, self.measure, further, units)
     }
 }
 
@@ -278,20 +266,12 @@ fn columns(count: usize, depth: usize, random: &mut Random, base: BaseAt) -> Vec
 }
 
 /// Both sides build the tables of a pair of rates anew.
-fn build_tables((pre, post): (u8, u8), best: &mut [f64; 2]) {
+fn tables_line((pre, post): (u8, u8)) -> Line {
     let mut bytes = [0; TABLES_BYTES];
-    best[0] =
-        best[0].min(seconds(|| (adjusted_tables(black_box(post)), gap_tables(black_box(pre)))));
-    best[1] = best[1].min(seconds(|| exports::tables(black_box(pre), black_box(post), &mut bytes)));
-}
-
-fn tables_line((pre, post): (u8, u8), best: [f64; 2]) -> Line {
-    let [rust, ours] = best.map(|seconds| seconds * 1e9);
-    Line {
-        function: "tables",
-        arguments: format!("rates {pre} and {post}"),
-        measure: "all of a pair",
-        rust,
-        ours,
-    }
+    let best = fastest(
+        ROUNDS,
+        || (adjusted_tables(black_box(post)), gap_tables(black_box(pre))),
+        || exports::tables(black_box(pre), black_box(post), &mut bytes),
+    );
+    Line::new("tables", format!("rates {pre} and {post}"), "all of a pair", best, 1)
 }

@@ -13,7 +13,7 @@ use oracle::base_builder::ConsensusBaseBuilder;
 use oracle::base_builder::accessors::{adjusted_tables, gap_tables};
 use oracle::simple_umi::SimpleUmiConsensusCaller;
 
-use super::{Line, seconds};
+use super::{Line, fastest};
 use crate::builder::Settings;
 use crate::exports;
 use crate::files::listing::{Found, write_columns, write_umi};
@@ -32,9 +32,6 @@ const MORE: u32 = 50;
 
 /// The rates that the source calls typical, under its default rule.
 const SETTINGS: Settings = Settings { pre: 45, post: 40, rule: 0 };
-
-/// What is measured of a file.
-const MEASURE: &str = "a file";
 
 /// Lines of a large file to text, with its tables and without, one of its calls alone, and one of a
 /// small file to text. Says where the answers differ.
@@ -66,13 +63,11 @@ pub fn to_text(file: &[u8]) -> Result<[f64; 2], String> {
     if out.get(..written as usize) != Some(&text[..]) {
         return Err(format!("a listing of {} bytes: the texts differ", file.len()));
     }
-    let mut best = [f64::INFINITY; 2];
-    for _ in 0..ROUNDS {
-        best[0] = best[0].min(seconds(|| list(black_box(file), &mut caller, &mut text)));
-        best[1] = best[1].min(seconds(|| exports::list(black_box(file), &mut out)));
-        black_box((&text, &out));
-    }
-    Ok(best)
+    Ok(fastest(
+        ROUNDS,
+        || list(black_box(file), &mut caller, black_box(&mut text)),
+        || exports::list(black_box(file), black_box(&mut out)),
+    ))
 }
 
 /// The listing as one would write it in Rust, with the tables of the rates built anew: a builder that
@@ -98,19 +93,15 @@ fn calls(arguments: String, file: &[u8]) -> Result<Line, String> {
     if ours != rust {
         return Err(format!("the calls, {arguments}: they add up to {ours}, the Rust's to {rust}"));
     }
-    let mut once = [f64::INFINITY; 2];
-    let mut more = [f64::INFINITY; 2];
-    for _ in 0..ROUNDS {
-        for (times, best) in [(1, &mut once), (1 + MORE, &mut more)] {
-            best[0] = best[0].min(seconds(|| sum(black_box(&listed.file), times)));
-            best[1] = best[1].min(seconds(|| exports::calls(black_box(file), times)));
-        }
-    }
+    let run = |times| {
+        let rust = || sum(black_box(&listed.file), times);
+        fastest(ROUNDS, rust, || exports::calls(black_box(file), times))
+    };
+    let (once, more) = (run(1), run(1 + MORE));
     let each = [0, 1].map(|side| (more[side] - once[side]) / f64::from(MORE));
     Ok(line("add, call", arguments, each))
 }
 
-pub fn line(function: &'static str, arguments: String, best: [f64; 2]) -> Line {
-    let [rust, ours] = best.map(|seconds| seconds * 1e9);
-    Line { function, arguments, measure: MEASURE, rust, ours }
+fn line(function: &'static str, arguments: String, best: [f64; 2]) -> Line {
+    Line::new(function, arguments, "a file", best, 1)
 }

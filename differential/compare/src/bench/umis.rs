@@ -4,7 +4,7 @@ use std::hint::black_box;
 
 use oracle::simple_umi::{SimpleUmiConsensusCaller, consensus_umis};
 
-use super::{Line, seconds};
+use super::{Line, fastest};
 use crate::exports;
 use crate::random::Random;
 use crate::umis::families::{FULL, Shape, family};
@@ -70,14 +70,9 @@ impl Timed {
         // the Rust keeps its caller and, by itself, its tables
         let mut caller = SimpleUmiConsensusCaller::new();
         self.check(&mut caller)?;
-        let mut best = [f64::INFINITY; 2];
-        for _ in 0..ROUNDS {
-            best[0] = best[0].min(seconds(|| self.run_rust(&mut caller)));
-            best[1] = best[1].min(seconds(|| self.run_ours()));
-        }
-        let [rust, ours] = best.map(|seconds| seconds * 1e9 / self.calls as f64);
+        let best = fastest(ROUNDS, || self.run_rust(&mut caller), || self.run_ours());
         let (function, arguments) = self.name;
-        Ok(Line { function, arguments: arguments.to_owned(), measure: "a set", rust, ours })
+        Ok(Line::new(function, arguments, "a set", best, self.calls))
     }
 
     /// Whether both sides answer the same.

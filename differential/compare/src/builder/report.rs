@@ -45,28 +45,23 @@ impl Field {
     ];
 
     pub fn name(self) -> &'static str {
-        match self {
-            Self::Likelihoods => "likelihoods",
-            Self::Compensations => "compensations",
-            Self::Counts => "counts",
-            Self::Unanimous => "unanimous shortcut",
-            Self::Multibase => "multibase shortcut",
-            Self::CallFull => "call_full",
-            Self::Call => "call",
-            Self::Refused => "events refused",
-        }
+        self.name_and_bytes().0
     }
 
     fn bytes(self) -> Range<usize> {
+        self.name_and_bytes().1
+    }
+
+    fn name_and_bytes(self) -> (&'static str, Range<usize>) {
         match self {
-            Self::Likelihoods => 0..32,
-            Self::Compensations => 32..64,
-            Self::Counts => 64..80,
-            Self::Unanimous => 80..83,
-            Self::Multibase => 83..86,
-            Self::CallFull => 86..88,
-            Self::Call => 88..90,
-            Self::Refused => 90..91,
+            Self::Likelihoods => ("likelihoods", 0..32),
+            Self::Compensations => ("compensations", 32..64),
+            Self::Counts => ("counts", 64..80),
+            Self::Unanimous => ("unanimous shortcut", 80..83),
+            Self::Multibase => ("multibase shortcut", 83..86),
+            Self::CallFull => ("call_full", 86..88),
+            Self::Call => ("call", 88..90),
+            Self::Refused => ("events refused", 90..91),
         }
     }
 }

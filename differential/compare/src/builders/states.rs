@@ -3,11 +3,11 @@
 use oracle::base_builder::ConsensusBaseBuilder;
 use oracle::base_builder::accessors::{State, state};
 
-use crate::arguments::Draw;
 use crate::builder::Settings;
 use crate::builder::draws::observation;
 use crate::builder::formula::Gaps;
 use crate::random::Random;
+use crate::ranges::Draw;
 
 /// A way to draw a state for a builder of some settings.
 pub struct Kind {

@@ -2,36 +2,27 @@
 
 use oracle::base_builder::accessors::State;
 
-use super::known::{Known, Totals};
 use super::states::KINDS;
+use super::totals::Totals;
 use crate::builder::cause::{Cause, causes};
+use crate::builder::known::Known;
 use crate::builder::observed::Observed;
 use crate::builder::report::{Field, Report, difference, state_bytes};
-use crate::builder::script::{Script, rules_at_reports};
+use crate::builder::script::{REPORT, Script, rules_at_reports};
 use crate::builder::sides::Run;
 use crate::builder::{Settings, rule_of};
-use crate::table::Table;
+use crate::counts::{Counts, table};
 
 /// The last line of the table, after those of the drawn states.
 const CHOSEN: &str = "chosen one by one";
 
-/// What came out for the states of a kind.
-#[derive(Default)]
-struct OfKind {
-    builders: u64,
-    reports: u64,
-    unanimous: u64,
-    multibase: u64,
-    no_calls: u64,
-    /// Reports that differ, and those of them whose causes are all known.
-    differing: u64,
-    known: u64,
-}
+/// What is printed of the states of a kind. Known are those reports that differ whose causes all are.
+const HEAD: &str = "state | builders | reports | unanimous | multibase | N called | differ | known";
 
 /// What came out of comparing many builders.
 #[derive(Default)]
 pub struct Tally {
-    kinds: [OfKind; KINDS.len() + 1],
+    kinds: [Counts; KINDS.len() + 1],
     pub known: Known,
     totals: Totals,
     /// What the builders have counted.
@@ -51,7 +42,7 @@ impl Tally {
     pub fn compare(&mut self, kind: usize, settings: Settings, state: &State, script: &Script) {
         let state = state_bytes(state, f64::to_bits);
         let run = Run { settings, state: Some(&state), script: &script.bytes };
-        self.kinds[kind].builders += 1;
+        self.kinds[kind].one("builders");
         let rust =
             run.rust_seen(|builder, report| self.observed.compare(builder, report, settings));
         let ours = match run.ours(script.reports) {
@@ -67,21 +58,23 @@ impl Tally {
 
     fn count(&mut self, kind: usize, run: &Run, rule: u8, ours: &Report, rust: &Report) {
         let of_kind = &mut self.kinds[kind];
-        of_kind.reports += 1;
-        of_kind.unanimous += u64::from(rust.replies(Field::Unanimous));
-        of_kind.multibase += u64::from(rust.replies(Field::Multibase));
-        of_kind.no_calls += u64::from(rust.no_call());
+        of_kind.one("reports");
+        of_kind.add("unanimous", rust.replies(Field::Unanimous));
+        of_kind.add("multibase", rust.replies(Field::Multibase));
+        of_kind.add("N called", rust.no_call());
         let causes = causes(ours, rust, run.settings.pre, rule_of(rule));
         let is_known = !causes.contains(&Cause::Unknown);
         // also where nothing differs: both may have the same wrong answer
         if ours == rust && is_known {
             return;
         }
-        of_kind.differing += 1;
-        of_kind.known += u64::from(is_known);
+        of_kind.one("differ");
+        of_kind.add("known", is_known);
         let settings = Settings { rule, ..run.settings };
         if is_known {
-            causes.into_iter().for_each(|cause| self.known.count(cause, settings, ours, rust));
+            let another_call = ours.field(Field::Call) != rust.field(Field::Call);
+            let example = || example(settings, ours, rust);
+            causes.into_iter().for_each(|cause| self.known.count(cause, another_call, example));
         } else {
             self.count_unknown(run, ours, rust);
         }
@@ -114,36 +107,19 @@ impl Tally {
         self.examples.iter().chain(&self.observed.example).cloned().collect()
     }
 
-    /// Has those be kept that come next.
-    pub fn forget_examples(&mut self) {
-        self.examples.clear();
-        self.observed.example = None;
+    /// Of all kinds together.
+    pub fn sum(&self) -> Counts {
+        Counts::sum(&self.kinds)
     }
 
-    fn sum(&self, part: fn(&OfKind) -> u64) -> u64 {
-        self.kinds.iter().map(part).sum()
-    }
-
-    pub fn builders(&self) -> u64 {
-        self.sum(|kind| kind.builders)
-    }
-
-    pub fn reports(&self) -> u64 {
-        self.sum(|kind| kind.reports)
-    }
-
-    /// Reports that differ for known causes alone.
-    pub fn explained(&self) -> u64 {
-        self.sum(|kind| kind.known)
-    }
-
-    /// Reports that differ otherwise, builders without their reports, and those whose counts differ.
+    /// Reports that differ for no known cause, builders without their reports, and those whose counts
+    /// differ.
     pub fn unexplained(&self) -> u64 {
         self.differing_otherwise() + self.failed + self.observed.differing
     }
 
     fn differing_otherwise(&self) -> u64 {
-        self.sum(|kind| kind.differing - kind.known)
+        self.sum().of("differ") - self.sum().of("known")
     }
 
     pub fn holds(&self) -> bool {
@@ -151,8 +127,10 @@ impl Tally {
     }
 
     pub fn print(&self) {
-        print!("{}", self.kinds_table().aligned());
+        let names = KINDS.iter().map(|kind| kind.name).chain([CHOSEN]);
+        print!("{}", table(HEAD, names.zip(&self.kinds)).aligned());
         self.known.print();
+        self.known.print_examples();
         self.totals.print();
         let by_field = Field::ALL.into_iter().zip(self.unknown);
         for (field, count) in by_field.filter(|(_, count)| *count > 0) {
@@ -164,40 +142,23 @@ impl Tally {
         println!(
             "builders: {} builders, {} reports; {} differ for a known cause, {} otherwise; {} builders \
              without the bytes of their reports",
-            self.builders(),
-            self.reports(),
-            self.explained(),
+            self.sum().of("builders"),
+            self.sum().of("reports"),
+            self.sum().of("known"),
             self.differing_otherwise(),
             self.failed,
         );
         self.observed.print("builders");
     }
+}
 
-    fn kinds_table(&self) -> Table {
-        let head = [
-            "state",
-            "builders",
-            "reports",
-            "unanimous",
-            "multibase",
-            "N called",
-            "differ",
-            "known",
-        ];
-        let mut table = Table::new(&head, 1..8);
-        let names = KINDS.iter().map(|kind| kind.name).chain([CHOSEN]);
-        for (name, kind) in names.zip(&self.kinds) {
-            table.row(vec![
-                name.to_owned(),
-                kind.builders.to_string(),
-                kind.reports.to_string(),
-                kind.unanimous.to_string(),
-                kind.multibase.to_string(),
-                kind.no_calls.to_string(),
-                kind.differing.to_string(),
-                kind.known.to_string(),
-            ]);
-        }
-        table
-    }
+/// The state alone is enough to see the report again.
+fn example(settings: Settings, ours: &Report, rust: &Report) -> String {
+    let run = Run { settings, state: Some(&rust.state()), script: &[REPORT, 0, 0] };
+    format!(
+        "likelihoods {}, counts {}: {}: {run}",
+        rust.likelihoods().map(|lane| format!("{lane:?}")).join(" "),
+        rust.words(Field::Counts),
+        difference(ours, rust),
+    )
 }

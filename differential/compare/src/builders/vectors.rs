@@ -28,24 +28,24 @@ const NEW: State = State { likelihoods: [0.0; 4], compensations: [0.0; 4], obser
 /// The lines, or what is wrong with an answer.
 pub fn lines(seed: u64) -> Result<Lines, String> {
     let mut random = Random::new(seed);
-    let mut list = List::default();
+    let mut list = Lines { function: "builder", ..Lines::default() };
     for (settings, events) in named() {
-        list.add_history(settings, &events)?;
+        add_history(&mut list, settings, &events)?;
     }
     for state in chosen() {
         for rule in [0, 1] {
             let settings = Settings { pre: 45, post: 40, rule };
-            list.add_state(settings, &state, &[]);
-            list.add_state(settings, &state, &[[ADD, b'A', 30]]);
+            add_state(&mut list, settings, &state, &[]);
+            add_state(&mut list, settings, &state, &[[ADD, b'A', 30]]);
         }
     }
     for turn in 0..DRAWN as u64 {
         let settings = settings(turn, &mut random);
-        list.add_history(settings, &drawn_history(&mut random))?;
+        add_history(&mut list, settings, &drawn_history(&mut random))?;
         let state = (KINDS[turn as usize % KINDS.len()].draw)(settings, &mut random);
-        list.add_state(settings, &state, &drawn_observations(&mut random));
+        add_state(&mut list, settings, &state, &drawn_observations(&mut random));
     }
-    Ok(Lines { function: "builder", lines: list.lines, left_out: list.left_out })
+    Ok(list)
 }
 
 /// The histories that SCOPE names: a new builder; ignored bytes alone; post rate 0 with A at 30
@@ -83,42 +83,34 @@ fn drawn_observations(random: &mut Random) -> Vec<Event> {
     (0..random.below(4)).map(|_| event(random)).collect()
 }
 
-#[derive(Default)]
-struct List {
-    lines: Vec<String>,
-    /// How many are not stored, since ours differ from the Rust's: the conditions that SCOPE
-    /// adds to the shortcuts. `compare builders` looks into these.
-    left_out: usize,
+/// A new builder, on which both sides must agree.
+fn add_history(list: &mut Lines, settings: Settings, events: &[Event]) -> Result<(), String> {
+    let before = list.left_out;
+    add_state(list, settings, &NEW, events);
+    if list.left_out == before {
+        return Ok(());
+    }
+    Err(format!("builder: ours differs after {}", digits(&script(events))))
 }
 
-impl List {
-    /// A new builder, on which both sides must agree.
-    fn add_history(&mut self, settings: Settings, events: &[Event]) -> Result<(), String> {
-        let before = self.left_out;
-        self.add_state(settings, &NEW, events);
-        if self.left_out == before {
-            return Ok(());
-        }
-        Err(format!("builder: ours differs after {}", digits(&script(events))))
+/// Left out are those on which they do not: the conditions that SCOPE adds to the shortcuts.
+/// `compare builders` looks into these.
+fn add_state(list: &mut Lines, settings: Settings, state: &State, events: &[Event]) {
+    let state = state_bytes(state, stored_bits);
+    let script = script(events);
+    let run = Run { settings, state: Some(&state), script: &script };
+    let rust = run.rust()[0];
+    if !run.ours(1).is_ok_and(|ours| ours[0] == rust) {
+        list.left_out += 1;
+        return;
     }
-
-    fn add_state(&mut self, settings: Settings, state: &State, events: &[Event]) {
-        let state = state_bytes(state, stored_bits);
-        let script = script(events);
-        let run = Run { settings, state: Some(&state), script: &script };
-        let rust = run.rust()[0];
-        if run.ours(1).is_ok_and(|ours| ours[0] == rust) {
-            self.lines.push(format!(
-                "b {} {} {} {}\n",
-                digits(&[settings.pre, settings.post, settings.rule]),
-                digits(&state),
-                digits(&script),
-                digits(rust.bytes()),
-            ));
-        } else {
-            self.left_out += 1;
-        }
-    }
+    list.lines.push(format!(
+        "b {} {} {} {}\n",
+        digits(&[settings.pre, settings.post, settings.rule]),
+        digits(&state),
+        digits(&script),
+        digits(rust.bytes()),
+    ));
 }
 
 /// The events behind as many as are wanting, and a report.

@@ -2,7 +2,7 @@
 
 use super::listing::Found;
 use crate::exports;
-use crate::umis::call::{GUARD, untouched};
+use crate::outcome::{GUARD, Outcome};
 use crate::umis::condition::TOO_SHORT;
 
 /// The two functions that list a file.
@@ -49,62 +49,47 @@ pub struct Call<'a> {
     pub room: usize,
 }
 
-/// The reply, and the buffer with the bytes beside it.
-#[derive(PartialEq, Eq)]
-pub struct Outcome {
-    reply: u64,
-    bytes: Vec<u8>,
-}
-
 impl Call<'_> {
     pub fn ours(&self) -> Outcome {
-        let mut bytes = untouched(self.room);
-        let out = &mut bytes[GUARD..GUARD + self.room];
-        let reply = match self.function {
+        Outcome::of(self.room, |out| match self.function {
             Function::List => exports::list(self.file, out),
             Function::Listing => exports::listing(self.file, out),
-        };
-        Outcome { reply, bytes }
+        })
     }
 
     /// What is demanded where this is found, with this text. One that does not fit leaves the
     /// buffer, and so does a refusal that is a number.
     pub fn demanded(&self, found: &Found, text: &[u8]) -> Outcome {
-        let mut bytes = untouched(self.room);
         if let (Function::Listing, Found::Refused(number)) = (self.function, found) {
-            return Outcome { reply: *number, bytes };
+            return Outcome::written(self.room, *number, &[]);
         }
         if text.len() > self.room {
-            return Outcome { reply: self.function.too_short(), bytes };
+            return Outcome::written(self.room, self.function.too_short(), &[]);
         }
-        bytes[GUARD..GUARD + text.len()].copy_from_slice(text);
-        Outcome { reply: self.function.written(text), bytes }
+        Outcome::written(self.room, self.function.written(text), text)
     }
 }
 
-impl Outcome {
-    /// How this one differs from what is demanded.
-    pub fn difference(&self, demanded: &Self) -> String {
-        let replies = format!("the reply {}, demanded {}", self.reply, demanded.reply);
-        let mut pairs = self.bytes.iter().zip(&demanded.bytes);
-        let Some(place) = pairs.position(|(ours, demanded)| ours != demanded) else {
-            return replies;
-        };
-        format!(
-            "{replies}; byte {} of the buffer, ours \"{}\", demanded \"{}\"",
-            place as i64 - GUARD as i64,
-            self.line(place),
-            demanded.line(place),
-        )
-    }
+/// How an outcome differs from what is demanded.
+pub fn difference(ours: &Outcome, demanded: &Outcome) -> String {
+    let replies = format!("the reply {}, demanded {}", ours.reply, demanded.reply);
+    let Some(place) = ours.first_differing(demanded) else {
+        return replies;
+    };
+    format!(
+        "{replies}; byte {} of the buffer, ours \"{}\", demanded \"{}\"",
+        place as i64 - GUARD as i64,
+        line(&ours.bytes, place),
+        line(&demanded.bytes, place),
+    )
+}
 
-    /// The line with this byte, as far as it is of readable length.
-    fn line(&self, place: usize) -> String {
-        const MOST: usize = 120;
-        let is_end = |byte: &u8| *byte == b'\n';
-        let start = self.bytes[..place].iter().rposition(is_end).map_or(GUARD, |end| end + 1);
-        let line = &self.bytes[start.min(place).max(place.saturating_sub(MOST))..];
-        let end = line.iter().position(is_end).map_or(line.len(), |end| end + 1);
-        line[..end.min(MOST)].escape_ascii().to_string()
-    }
+/// The line with this byte, as far as it is of readable length.
+fn line(bytes: &[u8], place: usize) -> String {
+    const MOST: usize = 120;
+    let is_end = |byte: &u8| *byte == b'\n';
+    let start = bytes[..place].iter().rposition(is_end).map_or(GUARD, |end| end + 1);
+    let line = &bytes[start.min(place).max(place.saturating_sub(MOST))..];
+    let end = line.iter().position(is_end).map_or(line.len(), |end| end + 1);
+    line[..end.min(MOST)].escape_ascii().to_string()
 }

@@ -115,7 +115,7 @@ pub fn with_refused_strings(random: &mut Random) -> Made {
     let shape = faults::small_shape(random);
     let strings = faults::strings(met, shape, random);
     let number = faults::named(met, &strings);
-    let columns = (0..random.below(3)).map(|_| usual::column(3, random)).collect();
+    let columns = usual::columns(random.below(3), |_| 3, random);
     let parts = Parts { settings: usual::bytes(settings(random)), columns, strings };
     Made::refused(parts.bytes(), number)
 }

@@ -84,33 +84,22 @@ fn sound(mut column: Column) -> Column {
 fn with_any_strings(random: &mut Random) -> Parts {
     let shape = shape(random);
     let strings = any_kind(shape, random);
-    let columns = (0..random.below(3)).map(|_| usual::column(3, random)).collect();
+    let columns = usual::columns(random.below(3), |_| 3, random);
     Parts { settings: usual::bytes(settings(random)), columns, strings }
 }
 
 /// Columns and strings that there are none of, or that are empty, or some that are.
 fn with_empty_parts(random: &mut Random) -> Parts {
     let many = |random: &mut Random| random.one_of(&[0, 0, 1, 2, 5]);
-    let columns = (0..many(random)).map(|_| {
-        let depth = random.one_of(&[0, 0, 0, 2]);
-        usual::column(depth, random)
-    });
-    let columns = columns.collect();
-    let strings = (0..many(random)).map(|_| {
-        let string: &[u8] = random.one_of(&[b"", b"", b"", b"A"]);
-        string.to_vec()
-    });
-    let strings = strings.collect();
+    let columns = usual::columns(many(random), |random| random.one_of(&[0, 0, 0, 2]), random);
+    let some: [&[u8]; 4] = [b"", b"", b"", b"A"];
+    let strings = (0..many(random)).map(|_| random.one_of(&some).to_vec()).collect();
     Parts { settings: usual::bytes(settings(random)), columns, strings }
 }
 
 /// Column numbers of two to four digits.
 fn with_many_columns(random: &mut Random) -> Parts {
     let most = random.one_of(&[100, 300, 2_000]);
-    let columns = (0..100 + random.below(most - 99)).map(|_| {
-        let depth = random.below(4);
-        usual::column(depth, random)
-    });
-    let columns = columns.collect();
+    let columns = usual::columns(100 + random.below(most - 99), |random| random.below(4), random);
     Parts { columns, ..usual_parts(random) }
 }

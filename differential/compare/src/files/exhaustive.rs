@@ -2,6 +2,7 @@
 
 use super::parts::{Made, Parts};
 use super::row::Row;
+use crate::lists::lists;
 
 /// Sound settings, after which the other sections begin.
 const SETTINGS: [u8; 4] = [3, 90, 90, 0];
@@ -31,12 +32,8 @@ fn strings() -> Row {
 /// Each file that begins so and then has up to so many bytes of an alphabet.
 fn row(name: &str, start: &[u8], alphabet: &[u8], most: u32) -> Row {
     let mut row = Row::new(name);
-    for count in 0..=most {
-        for number in 0..alphabet.len().pow(count) {
-            let digit = |place| number / alphabet.len().pow(place) % alphabet.len();
-            let rest: Vec<u8> = (0..count).rev().map(|place| alphabet[digit(place)]).collect();
-            row.compare_file(&[start, &rest].concat());
-        }
+    for rest in (0..=most).flat_map(|count| lists(alphabet, count)) {
+        row.compare_file(&[start, &rest].concat());
     }
     row
 }

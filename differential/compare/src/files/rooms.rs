@@ -3,6 +3,7 @@
 use super::drawn::{KINDS, usual_parts};
 use super::named::{SAMPLE, refused};
 use super::row::Row;
+use crate::outcome::every_room;
 use crate::random::Random;
 
 /// One file is compared in many rooms for so many that are asked for.
@@ -31,10 +32,6 @@ fn compare(file: &[u8], rooms: fn(usize) -> Vec<usize>, row: &mut Row) {
     for room in rooms(text.len()) {
         row.compare(file, room, &found, &text);
     }
-}
-
-fn every_room(needed: usize) -> Vec<usize> {
-    (0..needed + 3).chain([needed + 1000]).collect()
 }
 
 fn some_rooms(needed: usize) -> Vec<usize> {

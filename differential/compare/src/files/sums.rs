@@ -43,7 +43,7 @@ fn compare(file: &[u8], times: u32, row: &mut Row) {
         Found::Refused(_) => 0,
         Found::Listed(listed) => sum(&listed.file, times),
     };
-    row.calls += 1;
+    row.counts.one("calls");
     let ours = exports::calls(file, times);
     if ours != demanded {
         let problem =

@@ -1,129 +1,74 @@
 //! What came out, printed.
 
 use super::reader::NUMBERS;
-use super::row::{Known, Row};
-use super::seen::Seen;
-use crate::builder::{RULES, cause::Cause};
-use crate::table::Table;
-use crate::umis::condition::TOO_SHORT;
+use super::row::Row;
+use crate::counts::{Counts, all_demanded, examples, refused_in_words, table_of};
+
+/// What is printed of a row: how many files were to be listed or refused.
+const HEAD: &str =
+    "files | how many | calls | listed | 1 | 2 | 3 | 4 | 7 | 8 | 9 | too short | differ";
 
 /// How many different rates there are.
-const RATES: usize = 256;
+const RATES: u64 = 256;
 
 /// Prints what came out, and says whether nothing differs and all that is to be shown was shown.
 pub fn print(rows: &[Row]) -> bool {
-    let all = Row::sum("all", rows);
-    print!("{}", table(rows, &all).aligned());
-    for example in examples(rows) {
-        println!("{example}");
-    }
+    let all = Row::sum(rows);
+    let counts = &all.counts;
+    print!("{}", table_of(HEAD, rows, &all).aligned());
+    examples("files", rows).iter().for_each(|example| println!("{example}"));
     print_known(&all);
-    print_seen(&all);
-    let missing = missing(&all);
-    for reply in &missing {
-        println!("files: never demanded: {reply}");
-    }
-    let refused = NUMBERS.iter().zip(all.refused);
-    let refused: Vec<String> =
-        refused.map(|(number, count)| format!("{count} by {number}")).collect();
-    let known = all.explained();
+    print_seen(counts);
+    let demanded = demanded(counts);
+    let known = all.known.sum();
     let known = if known > 0 { format!(", and {known} for a known cause") } else { String::new() };
-    println!(
-        "files: {} files, {} calls compared: {} listed, refused {}; {} differ{known}",
-        all.files,
-        all.calls,
-        all.listed,
-        refused.join(", "),
-        all.differing
-    );
-    println!(
-        "files: consensus_listing beside the same texts, {} calls: {} refused by the number, {} by \
-         {TOO_SHORT}; differences are counted above",
-        all.listing_calls, all.listing_refused, all.listing_too_short,
-    );
-    all.differing == 0 && missing.is_empty()
-}
-
-/// What differs, with the shortest file of each row.
-pub fn examples(rows: &[Row]) -> Vec<String> {
-    let words = |row: &Row| {
-        let example = row.example.as_ref()?;
-        Some(format!("files: {}: {}", row.name, example.words))
-    };
-    rows.iter().filter_map(words).collect()
+    let refused = refused_in_words(&counts.of_numbers(&NUMBERS));
+    let files = "files: {how many} files, {calls} calls compared: {listed} listed, refused ";
+    println!("{}{refused}{}{known}", counts.told(files), counts.told("; {differ} differ"));
+    let listing = "files: consensus_listing beside the same texts, {listing} calls: {listing, refused} \
+                   refused by the number, {listing, too short} by 10; differences are counted above";
+    println!("{}", counts.told(listing));
+    counts.of("differ") == 0 && demanded
 }
 
 /// The texts that differ for a cause that is known, and one of each.
 pub fn print_known(all: &Row) {
-    for cause in Cause::known() {
-        if let Some(known) = all.known.iter().find(|known| known.cause == cause) {
-            let Known { texts, example, .. } = known;
-            let name = cause.name();
-            println!("files: {texts} texts differ by {name}, which is known: {example}");
-        }
+    for (name, texts, example) in all.known.lines() {
+        println!("files: {texts} texts differ by {name}, which is known: {example}");
     }
 }
 
-fn print_seen(all: &Row) {
-    let Seen { columns, no_calls, empty, by_the_rule, deepest, most, .. } = all.seen;
-    println!(
-        "files: {columns} columns listed, {no_calls} of them called N, {empty} of them empty, \
-         {by_the_rule} called otherwise under the other rule; at most {most} in a file, of depth \
-         {deepest} at most"
-    );
-    let Seen { flagged, no_string, high_bytes, rules, ref rates, .. } = all.seen;
-    println!(
-        "files: of {} texts, {flagged} with the flag, {no_string} with an empty string, {high_bytes} \
-         with a byte of 128 or more in it",
-        all.listed
-    );
-    let [pre, post] = all.seen.rates_of_each();
-    let of_rules = RULES.iter().zip(rules).map(|(rule, files)| format!("{files} under {rule:?}"));
-    println!(
-        "files: {pre} pre rates and {post} post rates in {} pairs; {}",
-        rates.len(),
-        of_rules.collect::<Vec<String>>().join(", ")
-    );
+fn print_seen(counts: &Counts) {
+    let columns = "files: {columns} columns listed, {columns called N} of them called N, {empty columns} \
+                   of them empty, {columns by the rule} called otherwise under the other rule; at most \
+                   {most columns} in a file, of depth {deepest} at most";
+    let texts = "files: of {listed} texts, {flagged} with the flag, {empty string} with an empty string, \
+                 {high bytes} with a byte of 128 or more in it";
+    let rates = "files: {pre rates} pre rates and {post rates} post rates in {pairs of rates} pairs; \
+                 {first rule} under FgbioCompat, {second rule} under UlpRelative";
+    for text in [columns, texts, rates] {
+        println!("{}", counts.told(text));
+    }
 }
 
-/// What was never demanded: without it the files do not show what they are to show.
-fn missing(all: &Row) -> Vec<String> {
-    let seen = &all.seen;
-    let numbers = NUMBERS.map(|number| format!("the number {number}"));
-    let [pre, post] = seen.rates_of_each();
+/// Whether all was demanded without which the files do not show what they are to show.
+fn demanded(counts: &Counts) -> bool {
+    let of = |name| counts.of(name);
+    let each_rate = [of("pre rates"), of("post rates")] == [RATES; 2];
     let others = [
-        ("0, for too short a buffer", all.too_short > 0),
-        ("10, for too short a buffer", all.listing_too_short > 0),
-        ("256 and more", all.listing_calls > all.listing_refused + all.listing_too_short),
-        ("a column called N", seen.no_calls > seen.empty),
-        ("a column called otherwise", seen.columns > seen.no_calls),
-        ("an empty column", seen.empty > 0),
-        ("a column called otherwise under the other rule", seen.by_the_rule > 0),
-        ("the flag", seen.flagged > 0),
-        ("no flag", all.listed > seen.flagged),
-        ("an empty string", seen.no_string > 0),
-        ("a byte of 128 or more", seen.high_bytes > 0),
-        ("each rule", !seen.rules.contains(&0)),
-        ("each rate on either side", [pre, post] == [RATES; 2]),
+        ("0, for too short a buffer", of("too short")),
+        ("10, for too short a buffer", of("listing, too short")),
+        ("256 and more", of("listing, written")),
+        ("a column called N", of("columns called N") - of("empty columns")),
+        ("a column called otherwise", of("columns") - of("columns called N")),
+        ("an empty column", of("empty columns")),
+        ("a column called otherwise under the other rule", of("columns by the rule")),
+        ("the flag", of("flagged")),
+        ("no flag", of("listed") - of("flagged")),
+        ("an empty string", of("empty string")),
+        ("a byte of 128 or more", of("high bytes")),
+        ("each rule", of("first rule").min(of("second rule"))),
+        ("each rate on either side", u64::from(each_rate)),
     ];
-    let others = others.map(|(reply, demanded)| (reply.to_owned(), demanded));
-    let numbers = numbers.into_iter().zip(all.refused.map(|count| count > 0));
-    numbers.chain(others).filter(|(_, demanded)| !demanded).map(|(reply, _)| reply).collect()
-}
-
-/// How many files were to be listed or refused: a row of each kind, and their sum.
-fn table(rows: &[Row], all: &Row) -> Table {
-    let numbers = NUMBERS.map(|number| number.to_string());
-    let mut head = vec!["files", "how many", "calls", "listed"];
-    head.extend(numbers.iter().map(String::as_str));
-    head.extend(["too short", "differ"]);
-    let mut table = Table::new(&head, 1..head.len());
-    for row in rows.iter().chain([all]) {
-        let mut counts = vec![row.files, row.calls, row.listed];
-        counts.extend(row.refused);
-        counts.extend([row.too_short, row.differing]);
-        let counts = counts.into_iter().map(|count| count.to_string());
-        table.row([row.name.clone()].into_iter().chain(counts).collect());
-    }
-    table
+    all_demanded("files: never demanded", &counts.of_numbers(&NUMBERS), &others)
 }

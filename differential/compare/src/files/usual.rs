@@ -28,13 +28,15 @@ pub fn column(depth: u64, random: &mut Random) -> Column {
     (0..depth).map(|_| observed(random)).collect()
 }
 
+/// So many such columns, each as deep as is drawn for it.
+pub fn columns(many: u64, depth: fn(&mut Random) -> u64, random: &mut Random) -> Vec<Column> {
+    let column = |random: &mut Random| column(depth(random), random);
+    (0..many).map(|_| column(random)).collect()
+}
+
 /// A few such columns with up to eight UMI strings of 8 letters, at these settings.
 pub fn parts(settings: Settings, random: &mut Random) -> Parts {
-    let columns = (0..random.below(12)).map(|_| {
-        let depth = random.below(30);
-        column(depth, random)
-    });
-    let columns = columns.collect();
+    let columns = columns(random.below(12), |random| random.below(30), random);
     let shape = Shape { strings: random.below(9) as usize, length: 8 };
     let percent = random.one_of(&[0, 1, 5, 20]);
     Parts { settings: bytes(settings), columns, strings: family(shape, percent, random) }

@@ -2,7 +2,7 @@
 
 use std::collections::HashSet;
 
-use super::call::{Call, Function};
+use super::call::{Call, Function, difference};
 use super::cause::explained;
 use super::drawn::KINDS;
 use super::listing::Found;
@@ -101,7 +101,7 @@ impl List {
         } else if explained(&found).is_some_and(|it| ours == call.demanded(&found, &it.text)) {
             self.left_out += 1;
         } else {
-            let difference = ours.difference(&demanded);
+            let difference = difference(&ours, &demanded);
             return Err(format!("listing: file {}: {difference}", digits(&file)));
         }
         self.seen.insert(file);

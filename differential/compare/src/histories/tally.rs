@@ -1,7 +1,5 @@
 //! A count over many reports.
 
-use std::collections::HashSet;
-
 use super::columns::KINDS;
 use super::ways::Ways;
 use crate::builder::cause::{Cause, causes};
@@ -10,6 +8,7 @@ use crate::builder::report::{Field, Report};
 use crate::builder::sides::Run;
 use crate::builder::ties::unique_maximum;
 use crate::builder::{RULES, Settings, rule_of};
+use crate::counts::{Counts, Shortest, table};
 use crate::table::Table;
 
 /// Where a report is in a script.
@@ -25,32 +24,18 @@ pub struct Place {
     pub rule: u8,
 }
 
-/// What came out for the columns of a kind.
-#[derive(Clone, Default)]
-struct OfKind {
-    columns: u64,
-    deepest: usize,
-    reports: u64,
-    unanimous: u64,
-    multibase: u64,
-    neither: u64,
-    no_calls: u64,
-    /// Near-ties: each rule names another lane, or one of them none.
-    rules_differ: u64,
-    not_finite: u64,
-    differing: u64,
-}
+/// What is printed of the columns of a kind. The rules differ in near-ties: each names another lane, or
+/// one of them none.
+const HEAD: &str = "columns | how many | deepest | reports | unanimous | multibase | neither | \
+                    N called | rules differ | not finite | differ";
 
 /// What came out of comparing many reports.
 #[derive(Default)]
 pub struct Tally {
-    scripts: u64,
-    /// The pre rates and the post rates of the scripts.
-    rates: [HashSet<u8>; 2],
-    kinds: [OfKind; KINDS.len()],
+    /// The scripts, their rates, and those for which there are no reports to compare.
+    scripts: Counts,
+    kinds: [Counts; KINDS.len()],
     fields: [OfField; Field::ALL.len()],
-    /// Scripts for which there are no reports to compare, and one of them.
-    failed: u64,
     failed_example: Option<String>,
     /// By the other ways to a report, and what the builders of the reports have counted.
     pub ways: Ways,
@@ -62,37 +47,27 @@ pub struct Tally {
 struct OfField {
     differing: u64,
     tried: u64,
-    example: Option<Example>,
+    example: Shortest,
 }
 
 /// How many reports are looked at for a shorter script. Each is run again, and all may differ.
 const TRIED: u64 = 50;
 
-impl OfField {
-    /// Whether so many bytes are less than the kept script has.
-    fn is_shorter(&self, bytes: usize) -> bool {
-        self.example.as_ref().is_none_or(|kept| bytes < kept.bytes)
-    }
-}
-
-struct Example {
-    bytes: usize,
-    words: String,
-}
-
 impl Tally {
     pub fn columns(&self) -> u64 {
-        self.kinds.iter().map(|kind| kind.columns).sum()
+        self.sum().of("how many")
     }
 
-    pub fn reports(&self) -> u64 {
-        self.sum().reports
+    /// Of all kinds together.
+    pub fn sum(&self) -> Counts {
+        Counts::sum(&self.kinds)
     }
 
     /// Reports that differ, whatever the cause and the way, scripts without their reports, and
     /// builders whose counts differ.
     pub fn unexplained(&self) -> u64 {
-        self.sum().differing + self.failed + self.ways.unexplained() + self.observed.differing
+        let failed = self.scripts.of("failed");
+        self.sum().of("differ") + failed + self.ways.unexplained() + self.observed.differing
     }
 
     pub fn holds(&self) -> bool {
@@ -100,32 +75,30 @@ impl Tally {
     }
 
     pub fn count_script(&mut self, settings: Settings) {
-        self.scripts += 1;
-        for (rates, rate) in self.rates.iter_mut().zip([settings.pre, settings.post]) {
-            rates.insert(rate);
-        }
+        self.scripts.one("scripts");
+        self.scripts.see("pre rates", settings.pre);
+        self.scripts.see("post rates", settings.post);
     }
 
     /// Counts a column of a kind with so many observations.
     pub fn count_column(&mut self, kind: usize, depth: usize) {
-        let kind = &mut self.kinds[kind];
-        kind.columns += 1;
-        kind.deepest = kind.deepest.max(depth);
+        self.kinds[kind].one("how many");
+        self.kinds[kind].most("deepest", depth);
     }
 
     pub fn count(&mut self, run: &Run, place: &Place, ours: &Report, rust: &Report) {
         let kind = &mut self.kinds[place.kind];
-        kind.reports += 1;
-        let (unanimous, multibase) =
-            (rust.replies(Field::Unanimous), rust.replies(Field::Multibase));
-        kind.unanimous += u64::from(unanimous);
-        kind.multibase += u64::from(multibase);
-        kind.neither += u64::from(!unanimous && !multibase);
-        kind.no_calls += u64::from(rust.no_call());
-        kind.rules_differ += u64::from(rules_differ(rust.likelihoods()));
-        kind.not_finite += u64::from(!rust.likelihoods().iter().all(|lane| lane.is_finite()));
+        let shortcuts = [Field::Unanimous, Field::Multibase];
+        let [unanimous, multibase] = shortcuts.map(|shortcut| rust.replies(shortcut));
+        kind.one("reports");
+        kind.add("unanimous", unanimous);
+        kind.add("multibase", multibase);
+        kind.add("neither", !unanimous && !multibase);
+        kind.add("N called", rust.no_call());
+        kind.add("rules differ", rules_differ(rust.likelihoods()));
+        kind.add("not finite", !rust.likelihoods().iter().all(|lane| lane.is_finite()));
         if ours != rust {
-            kind.differing += 1;
+            kind.one("differ");
             self.count_difference(run, place, ours, rust);
         }
     }
@@ -137,19 +110,18 @@ impl Tally {
             }
             tally.differing += 1;
             let column = place.end - place.start;
-            if tally.tried < TRIED && tally.is_shorter(column) {
+            if tally.tried < TRIED && tally.example.is_beaten_by(column) {
                 tally.tried += 1;
-                let example = Example::new(run, place, field, ours, rust);
-                if tally.is_shorter(example.bytes) {
-                    tally.example = Some(example);
-                }
+                let again = shortest(run, place, field);
+                let words = || words_of(&again, place, field, ours, rust);
+                tally.example.keep(again.script.len(), words);
             }
         }
     }
 
     /// Counts a script for which there are no reports of ours to compare.
     pub fn count_failed(&mut self, run: &Run, places: &[Place], problem: String) {
-        self.failed += 1;
+        self.scripts.one("failed");
         if self.failed_example.is_none() {
             let column = |place: &Place| {
                 let again = from_reset(run, place);
@@ -161,99 +133,42 @@ impl Tally {
         }
     }
 
-    fn sum(&self) -> OfKind {
-        let add = |sum: OfKind, kind: &OfKind| OfKind {
-            columns: sum.columns + kind.columns,
-            deepest: sum.deepest.max(kind.deepest),
-            reports: sum.reports + kind.reports,
-            unanimous: sum.unanimous + kind.unanimous,
-            multibase: sum.multibase + kind.multibase,
-            neither: sum.neither + kind.neither,
-            no_calls: sum.no_calls + kind.no_calls,
-            rules_differ: sum.rules_differ + kind.rules_differ,
-            not_finite: sum.not_finite + kind.not_finite,
-            differing: sum.differing + kind.differing,
-        };
-        self.kinds.iter().fold(OfKind::default(), add)
-    }
-
     /// What differs, and how to see it again.
     pub fn examples(&self) -> Vec<String> {
-        let of_fields = self.fields.iter().filter_map(|field| field.example.as_ref());
-        let of_fields = of_fields.map(|example| &example.words);
+        let of_fields = self.fields.iter().filter_map(|field| field.example.words());
         let others = self.ways.examples().chain(&self.observed.example);
         of_fields.chain(&self.failed_example).chain(others).cloned().collect()
     }
 
-    /// Has those be kept that come next.
-    pub fn forget_examples(&mut self) {
-        for field in &mut self.fields {
-            (field.tried, field.example) = (0, None);
-        }
-        self.failed_example = None;
-        self.ways.forget_examples();
-        self.observed.example = None;
-    }
-
     pub fn print(&self) {
-        print!("{}", self.kinds_table().aligned());
+        let sum = self.sum();
+        let names = KINDS.iter().map(|kind| kind.name).chain(["all"]);
+        let lines = names.zip(self.kinds.iter().chain([&sum]));
+        print!("{}", table(HEAD, lines).aligned());
         print!("{}", self.fields_table().aligned());
         for example in self.examples() {
             println!("{example}");
         }
-        let sum = self.sum();
         println!(
             "histories: {} columns between resets and {} whole scripts of them, {} reports; a report \
              asks both shortcuts",
-            sum.columns, self.scripts, sum.reports
+            sum.of("how many"),
+            self.scripts.of("scripts"),
+            sum.of("reports"),
         );
         println!(
             "histories: {} reports differ, {} scripts without the bytes of their reports",
-            sum.differing, self.failed
+            sum.of("differ"),
+            self.scripts.of("failed"),
         );
         self.ways.print();
         self.observed.print("histories");
-        let [pre, post] = self.rates.each_ref().map(HashSet::len);
-        println!("histories: {pre} pre rates and {post} post rates");
-    }
-
-    fn kinds_table(&self) -> Table {
-        let head = [
-            "columns",
-            "how many",
-            "deepest",
-            "reports",
-            "unanimous",
-            "multibase",
-            "neither",
-            "N called",
-            "rules differ",
-            "not finite",
-            "differ",
-        ];
-        let mut table = Table::new(&head, 1..11);
-        let sum = self.sum();
-        let names = KINDS.iter().map(|kind| kind.name).chain(["all"]);
-        for (name, kind) in names.zip(self.kinds.iter().chain([&sum])) {
-            table.row(vec![
-                name.to_owned(),
-                kind.columns.to_string(),
-                kind.deepest.to_string(),
-                kind.reports.to_string(),
-                kind.unanimous.to_string(),
-                kind.multibase.to_string(),
-                kind.neither.to_string(),
-                kind.no_calls.to_string(),
-                kind.rules_differ.to_string(),
-                kind.not_finite.to_string(),
-                kind.differing.to_string(),
-            ]);
-        }
-        table
+        let rates = "histories: {pre rates} pre rates and {post rates} post rates";
+        println!("{}", self.scripts.told(rates));
     }
 
     fn fields_table(&self) -> Table {
-        let mut table = Table::new(&["a report's", "reports that differ"], 1..2);
+        let mut table = Table::new("a report's | reports that differ", 1..2);
         for (field, tally) in Field::ALL.into_iter().zip(&self.fields) {
             table.row(vec![field.name().to_owned(), tally.differing.to_string()]);
         }
@@ -261,22 +176,23 @@ impl Tally {
     }
 }
 
-impl Example {
-    /// The column alone, where that shows a difference as well, and else all that is before it too.
-    fn new(run: &Run, place: &Place, field: Field, ours: &Report, rust: &Report) -> Self {
-        let column = from_reset(run, place);
-        let whole = Run { script: &run.script[..place.end], ..*run };
-        let again = if last_differs(&column, field) { column } else { whole };
-        let causes = causes(ours, rust, run.settings.pre, rule_of(place.rule));
-        let problem = format!(
-            "{}, ours {}, the Rust's {}, the cause {}",
-            field.name(),
-            ours.words(field),
-            rust.words(field),
-            causes.into_iter().map(Cause::name).collect::<Vec<String>>().join(" and "),
-        );
-        Self { bytes: again.script.len(), words: words(&again, &problem) }
-    }
+/// The column alone, where that shows a difference as well, and else all that is before it too.
+fn shortest<'a>(run: &Run<'a>, place: &Place, field: Field) -> Run<'a> {
+    let column = from_reset(run, place);
+    let whole = Run { script: &run.script[..place.end], ..*run };
+    if last_differs(&column, field) { column } else { whole }
+}
+
+fn words_of(run: &Run, place: &Place, field: Field, ours: &Report, rust: &Report) -> String {
+    let causes = causes(ours, rust, run.settings.pre, rule_of(place.rule));
+    let problem = format!(
+        "{}, ours {}, the Rust's {}, the cause {}",
+        field.name(),
+        ours.words(field),
+        rust.words(field),
+        causes.into_iter().map(Cause::name).collect::<Vec<String>>().join(" and "),
+    );
+    words(run, &problem)
 }
 
 fn rules_differ(lanes: [f64; 4]) -> bool {

@@ -3,6 +3,7 @@
 use super::tally::{Place, from_reset};
 use crate::builder::report::{Report, difference};
 use crate::builder::sides::{Run, Way};
+use crate::counts::Counts;
 
 /// What came out of each of the other ways.
 #[derive(Default)]
@@ -12,10 +13,8 @@ pub struct Ways {
 
 #[derive(Default)]
 struct OfWay {
-    reports: u64,
-    differing: u64,
-    /// Scripts for which there are no reports to compare.
-    failed: u64,
+    /// The reports, those that differ, and the scripts for which there are no reports to compare.
+    counts: Counts,
     /// The first difference.
     example: Option<String>,
 }
@@ -29,31 +28,23 @@ impl Ways {
     }
 
     pub fn unexplained(&self) -> u64 {
-        self.of_each.iter().map(|way| way.differing + way.failed).sum()
+        self.of_each.iter().map(|way| way.counts.of("differ") + way.counts.of("failed")).sum()
     }
 
     /// Whether there were reports by each way.
     pub fn all_went(&self) -> bool {
-        self.of_each.iter().all(|way| way.reports > 0)
+        self.of_each.iter().all(|way| way.counts.of("reports") > 0)
     }
 
     pub fn examples(&self) -> impl Iterator<Item = &String> {
         self.of_each.iter().filter_map(|way| way.example.as_ref())
     }
 
-    pub fn forget_examples(&mut self) {
-        self.of_each.iter_mut().for_each(|way| way.example = None);
-    }
-
     pub fn print(&self) {
+        let text =
+            "{reports} reports, {differ} differ, {failed} scripts without the bytes of theirs";
         for (way, tally) in Way::OTHERS.into_iter().zip(&self.of_each) {
-            println!(
-                "histories: {}: {} reports, {} differ, {} scripts without the bytes of theirs",
-                way.name(),
-                tally.reports,
-                tally.differing,
-                tally.failed,
-            );
+            println!("histories: {}: {}", way.name(), tally.counts.told(text));
         }
     }
 }
@@ -63,15 +54,15 @@ impl OfWay {
         let ours = match run.ours_by(way, rust.len()) {
             Ok(ours) => ours,
             Err(problem) => {
-                self.failed += 1;
+                self.counts.one("failed");
                 self.example.get_or_insert_with(|| words(way, run, &problem));
                 return;
             }
         };
         for ((ours, rust), place) in ours.iter().zip(rust).zip(places) {
-            self.reports += 1;
+            self.counts.one("reports");
             if ours != rust {
-                self.differing += 1;
+                self.counts.one("differ");
                 self.example.get_or_insert_with(|| {
                     words(way, &shortest(way, run, place), &difference(ours, rust))
                 });

@@ -5,7 +5,7 @@
 
 use std::f64::consts::{LN_2, LN_10};
 
-use crate::exports::{consensus_exp, consensus_exp_m1, consensus_ln, consensus_ln_1p};
+use crate::exports;
 
 /// ln(4/3)
 pub const LN_FOUR_THIRDS: f64 = 0.287_682_072_451_780_9;
@@ -19,10 +19,10 @@ pub struct Elementary {
 }
 
 pub static OURS: Elementary = Elementary {
-    exp: |x| consensus_exp(x),
-    ln: |x| consensus_ln(x),
-    ln_1p: |x| consensus_ln_1p(x),
-    exp_m1: |x| consensus_exp_m1(x),
+    exp: |x| exports::exp(x),
+    ln: |x| exports::ln(x),
+    ln_1p: |x| exports::ln_1p(x),
+    exp_m1: |x| exports::exp_m1(x),
 };
 
 pub static C_LIBRARY: Elementary =

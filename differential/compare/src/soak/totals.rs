@@ -1,11 +1,10 @@
 //! What came out of all rounds so far.
 
-use std::mem::take;
-
-use crate::builder::cause::Cause;
+use crate::counts::{Counts, Row, examples};
 use crate::random::Random;
 use crate::table::Table;
 use crate::umis::condition;
+use crate::umis::sequences::Sequences;
 use crate::{builders, files, histories, umis};
 
 /// How much of each a round draws: enough that each rate has its turn, and little enough that a
@@ -19,69 +18,66 @@ const FILES: u64 = 8_000;
 #[derive(Default)]
 pub struct Totals {
     pub rounds: u64,
-    histories: histories::tally::Tally,
-    builders: builders::tally::Tally,
-    umis: umis::row::Row,
-    sequences: umis::sequences::Sequences,
-    files: files::row::Row,
+    /// Differences that are not known ones.
+    pub unexplained: u64,
+    histories: Counts,
+    builders: Row,
+    umis: Row,
+    sequences: Row,
+    files: Row,
 }
 
 impl Totals {
     /// Compares what is drawn by a seed, and gives what differs for no known cause, as text.
     pub fn compare_round(&mut self, seed: u64) -> Vec<String> {
         self.rounds += 1;
-        histories::compare_drawn(HISTORIES, seed, &mut self.histories);
-        builders::compare_drawn(BUILDERS, seed, &mut self.builders);
-        let umis = umis::by_seed(SETS, seed);
-        self.sequences.compare_all(SEQUENCES, &mut Random::new(seed));
+        let mut of_histories = histories::tally::Tally::default();
+        histories::compare_drawn(HISTORIES, seed, &mut of_histories);
+        let mut of_builders = builders::tally::Tally::default();
+        builders::compare_drawn(BUILDERS, seed, &mut of_builders);
+        let sets = umis::by_seed(SETS, seed);
+        let mut sequences = Sequences::default();
+        sequences.compare_all(SEQUENCES, &mut Random::new(seed));
         let files = files::by_seed(FILES, seed);
-        let mut examples = self.histories.examples();
-        examples.extend(self.builders.examples());
-        examples.extend(umis::tally::examples(&umis));
-        examples.extend(self.sequences.example());
-        examples.extend(files::tally::examples(&files));
-        self.histories.forget_examples();
-        self.builders.forget_examples();
-        self.sequences.forget_example();
-        self.add_rows(umis, files);
-        examples
-    }
-
-    fn add_rows(&mut self, mut umis: Vec<umis::row::Row>, mut files: Vec<files::row::Row>) {
-        umis.insert(0, take(&mut self.umis));
-        self.umis = umis::row::Row::sum("all", &umis);
-        files.insert(0, take(&mut self.files));
-        self.files = files::row::Row::sum("all", &files);
-    }
-
-    /// Differences that are not known ones.
-    pub fn unexplained(&self) -> u64 {
-        self.histories.unexplained()
-            + self.builders.unexplained()
-            + self.umis.differing
-            + self.sequences.differing
-            + self.files.differing
+        self.unexplained += of_histories.unexplained() + of_builders.unexplained();
+        let rows = sets.iter().chain(&files).chain([&sequences.0]);
+        self.unexplained += rows.map(|row| row.counts.of("differ")).sum::<u64>();
+        self.histories.extend(&of_histories.sum());
+        self.builders.counts.extend(&of_builders.sum());
+        self.builders.known.extend(&of_builders.known);
+        sets.iter().for_each(|row| self.umis.extend(row));
+        self.sequences.extend(&sequences.0);
+        files.iter().for_each(|row| self.files.extend(row));
+        let sequences = sequences.0.example.words().cloned();
+        [
+            of_histories.examples(),
+            of_builders.examples(),
+            examples("umis", &sets),
+            sequences.into_iter().collect(),
+            examples("files", &files),
+        ]
+        .concat()
     }
 
     /// The counts in the line of a round.
     pub fn so_far(&self) -> [u64; 9] {
         [
-            self.histories.columns(),
-            self.histories.reports(),
-            self.builders.builders(),
-            self.builders.reports(),
-            self.umis.sets,
-            self.umis.calls,
-            self.files.files,
-            self.unexplained(),
-            self.builders.explained() + self.files.explained(),
+            self.histories.of("how many"),
+            self.histories.of("reports"),
+            self.builders.counts.of("builders"),
+            self.builders.counts.of("reports"),
+            self.umis.counts.of("how many"),
+            self.umis.counts.of("calls"),
+            self.files.counts.of("how many"),
+            self.unexplained,
+            self.builders.counts.of("known") + self.files.known.sum(),
         ]
     }
 
     pub fn print(&self) {
         self.builders.known.print_examples();
         files::tally::print_known(&self.files);
-        let mut table = Table::new(&["in all rounds", "how many"], 1..2);
+        let mut table = Table::new("in all rounds | how many", 1..2);
         for (name, count) in self.lines() {
             table.row(vec![name, count.to_string()]);
         }
@@ -89,43 +85,35 @@ impl Totals {
     }
 
     fn lines(&self) -> Vec<(String, u64)> {
-        let line = |name: &str, count| (name.to_owned(), count);
-        let mut lines = vec![
+        let line = |name: &str, count| vec![(name.to_owned(), count)];
+        let of = |name: &str, row: &Row, count| line(name, row.counts.of(count));
+        let by_number = |what: &str, row: &Row, numbers: &[u64]| {
+            let counts = row.counts.of_numbers(numbers).into_iter();
+            counts.map(|(number, count)| (format!("{what}, refused by {number}"), count)).collect()
+        };
+        let causes = |row: &Row| {
+            row.known.lines().map(|(name, count, _)| (format!("- {name}"), count)).collect()
+        };
+        let Self { builders, umis, sequences, files, .. } = self;
+        [
             line("rounds", self.rounds),
-            line("columns", self.histories.columns()),
-            line("reports on columns", self.histories.reports()),
-            line("builders", self.builders.builders()),
-            line("reports on builders", self.builders.reports()),
-            line("reports on builders that differ for a known cause", self.builders.explained()),
-        ];
-        lines.extend(of_causes(self.builders.known.reports()));
-        lines.push(line("UMI sets", self.umis.sets));
-        lines.push(line("calls of UMI functions, accepted", self.umis.accepted.calls));
-        let refused = condition::NUMBERS.into_iter().zip(self.umis.refused);
-        lines.extend(of_numbers("calls of UMI functions", refused));
-        lines.push(line("sequences of UMI sets on one caller", self.sequences.sequences));
-        lines.push(line("UMI sets in them", self.sequences.sets));
-        lines.push(line("column files, listed", self.files.listed));
-        let refused = files::reader::NUMBERS.into_iter().zip(self.files.refused);
-        lines.extend(of_numbers("column files", refused));
-        lines.push(line("texts that differ for a known cause", self.files.explained()));
-        let known = self.files.known.iter().map(|known| (known.cause, known.texts));
-        lines.extend(of_causes(known));
-        lines.push(line("differences that stand unexplained", self.unexplained()));
-        lines
+            line("columns", self.histories.of("how many")),
+            line("reports on columns", self.histories.of("reports")),
+            of("builders", builders, "builders"),
+            of("reports on builders", builders, "reports"),
+            of("reports on builders that differ for a known cause", builders, "known"),
+            causes(builders),
+            of("UMI sets", umis, "how many"),
+            of("calls of UMI functions, accepted", umis, "accepted"),
+            by_number("calls of UMI functions", umis, &condition::NUMBERS),
+            of("sequences of UMI sets on one caller", sequences, "sequences"),
+            of("UMI sets in them", sequences, "sets"),
+            of("column files, listed", files, "listed"),
+            by_number("column files", files, &files::reader::NUMBERS),
+            line("texts that differ for a known cause", files.known.sum()),
+            causes(files),
+            line("differences that stand unexplained", self.unexplained),
+        ]
+        .concat()
     }
-}
-
-/// A line for each cause that occurred.
-fn of_causes(counts: impl Iterator<Item = (Cause, u64)>) -> impl Iterator<Item = (String, u64)> {
-    let occurred = counts.filter(|(_, count)| *count > 0);
-    occurred.map(|(cause, count)| (format!("- {}", cause.name()), count))
-}
-
-/// A line for each number of a condition.
-fn of_numbers(
-    what: &str,
-    counts: impl Iterator<Item = (u64, u64)>,
-) -> impl Iterator<Item = (String, u64)> {
-    counts.map(move |(number, count)| (format!("{what}, refused by {number}"), count))
 }

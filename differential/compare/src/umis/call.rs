@@ -9,12 +9,10 @@ use super::rust::Given;
 use crate::builder::report::STATE_BYTES;
 use crate::exports;
 use crate::hexadecimal::digits;
+use crate::outcome::Outcome;
 
 /// Room for the longest answer, and for some bytes more.
 pub const ROOM: usize = 255 + STATE_BYTES + 9;
-
-/// How many bytes on either side of the buffer are looked at, too.
-pub const GUARD: usize = 8;
 
 /// A call of `consensus_umi`, or of `consensus_umi_caller` where it has rates.
 #[derive(Clone, Copy)]
@@ -39,41 +37,26 @@ pub fn calls(function: Function, rates: Rates, set: &[u8]) -> Vec<Call<'_>> {
     calls
 }
 
-/// The reply, and the buffer with the bytes beside it.
-#[derive(PartialEq, Eq)]
-pub struct Outcome {
-    pub reply: u64,
-    bytes: Vec<u8>,
-}
-
 impl Call<'_> {
     pub fn ours(&self) -> Outcome {
-        let mut bytes = untouched(self.room);
-        let out = &mut bytes[GUARD..GUARD + self.room];
-        let reply = match self.rates {
+        Outcome::of(self.room, |out| match self.rates {
             Some(rates) => exports::umi_caller(rates, self.function, self.set, out),
             None => exports::umi(self.function, self.set, out),
-        };
-        Outcome { reply, bytes }
+        })
     }
 
     /// What is demanded, by what is to be found: a refusal leaves the buffer, and so does one that is
     /// too short.
     pub fn demanded(&self, found: &Found) -> Outcome {
-        let mut bytes = untouched(self.room);
-        let reply = match found {
-            Found::Number(number) => *number,
-            Found::Given(given) => {
-                let answer = self.answer(given);
-                if answer.len() > self.room {
-                    TOO_SHORT
-                } else {
-                    bytes[GUARD..GUARD + answer.len()].copy_from_slice(&answer);
-                    accepted(given)
-                }
-            }
+        let given = match found {
+            Found::Number(number) => return Outcome::written(self.room, *number, &[]),
+            Found::Given(given) => given,
         };
-        Outcome { reply, bytes }
+        let answer = self.answer(given);
+        if answer.len() > self.room {
+            return Outcome::written(self.room, TOO_SHORT, &[]);
+        }
+        Outcome::written(self.room, accepted(given), &answer)
     }
 
     /// How long a buffer must be.
@@ -97,24 +80,10 @@ pub fn accepted(given: &Given) -> u64 {
     256 + 4 * given.string.len() as u64 + 2 * second + first
 }
 
-/// A buffer and the bytes beside it, as they are before a call: each unlike its neighbours, and none
-/// a letter.
-pub fn untouched(room: usize) -> Vec<u8> {
-    (0..room + 2 * GUARD).map(|place| 128 + (place * 37 % 128) as u8).collect()
-}
-
-impl Outcome {
-    /// How this one differs from what is demanded.
-    pub fn difference(&self, demanded: &Self) -> String {
-        let replies = format!("ours {}, demanded {}", words(self.reply), words(demanded.reply));
-        let pairs = self.bytes.iter().zip(&demanded.bytes);
-        let mut differing = pairs.enumerate().filter(|(_, (ours, demanded))| ours != demanded);
-        let Some((place, (ours, demanded))) = differing.next() else {
-            return replies;
-        };
-        let place = place as i64 - GUARD as i64;
-        format!("{replies}; byte {place} of the buffer is {ours:02x}, demanded {demanded:02x}")
-    }
+/// How an outcome differs from what is demanded.
+pub fn difference(ours: &Outcome, demanded: &Outcome) -> String {
+    let replies = format!("ours {}, demanded {}", words(ours.reply), words(demanded.reply));
+    ours.difference(demanded, replies)
 }
 
 /// A reply as text.

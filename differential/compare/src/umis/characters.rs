@@ -1,7 +1,7 @@
 //! Strings of characters that are two bytes in UTF-8, so that the Rust can be asked: the known
 //! difference in bytes of 128 or more.
 
-use super::call::{Call, ROOM, calls};
+use super::call::{Call, ROOM, calls, difference};
 use super::condition::NOT_ASCII;
 use super::file_form::written;
 use super::found::Found;
@@ -100,7 +100,7 @@ fn compare_all(all: &[Asked], found: fn(Given) -> Found) -> Compared {
                 compared.calls += 1;
                 let (ours, demanded) = (call.ours(), call.demanded(&found));
                 if ours != demanded {
-                    compared.problems.push(format!("{call}: {}", ours.difference(&demanded)));
+                    compared.problems.push(format!("{call}: {}", difference(&ours, &demanded)));
                 }
             }
         }

@@ -2,6 +2,7 @@
 
 use super::file_form::written;
 use super::row::Row;
+use crate::lists::lists;
 
 /// DNA in either case, N, two bytes that are no DNA, and one of 128 or more.
 const ALPHABET: &[u8] = b"ACaN-+\xc8";
@@ -38,18 +39,11 @@ fn pairs_of_bytes(name: &str, set: fn(u8, u8) -> Vec<u8>) -> Row {
 /// Each set of up to so many of these strings.
 fn row(name: &str, strings: &[Vec<u8>], most: u32) -> Row {
     let mut row = Row::new(name);
-    for count in 0..=most {
-        for number in 0..strings.len().pow(count) {
-            row.compare_set(&written(&chosen(strings, count, number)));
-        }
+    let strings: Vec<&[u8]> = strings.iter().map(|string| &string[..]).collect();
+    for set in (0..=most).flat_map(|count| lists(&strings, count)) {
+        row.compare_set(&written(&set));
     }
     row
-}
-
-/// As many strings as a number has digits, each by its digit.
-fn chosen(strings: &[Vec<u8>], digits: u32, number: usize) -> Vec<&[u8]> {
-    let digit = |place| number / strings.len().pow(place) % strings.len();
-    (0..digits).rev().map(|place| &strings[digit(place)][..]).collect()
 }
 
 /// Each string of up to so many bytes of an alphabet, the short ones first.

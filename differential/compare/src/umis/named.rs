@@ -1,6 +1,6 @@
 //! The sets that SCOPE names, with what it says of them; and functions that there are not.
 
-use super::call::{Call, ROOM};
+use super::call::{Call, ROOM, difference};
 use super::file_form::written;
 use super::found::Found;
 use super::function::{DEFAULTS, Function, Rates};
@@ -31,14 +31,14 @@ pub fn row() -> Row {
 
 fn compare(named: &Named, function: Function, row: &mut Row) {
     let call = Call { function: function.byte(), rates: None, set: &named.set, room: named.room };
-    row.compare(&call, &named.answer);
-    let Some(found) = row.found(function, DEFAULTS, &named.set) else {
+    row.compare_umi(&call, &named.answer);
+    let Some(found) = row.found_of_set(function, DEFAULTS, &named.set) else {
         return;
     };
     let (rust, demanded) = (call.demanded(&found), call.demanded(&named.answer));
     if rust != demanded {
-        let difference = rust.difference(&demanded);
-        row.count_difference(&call, &format!("the Rust in the place of ours: {difference}"));
+        let difference = difference(&rust, &demanded);
+        row.umi_differs(&call, &format!("the Rust in the place of ours: {difference}"));
     }
 }
 
@@ -115,12 +115,12 @@ pub fn row_of_absent_functions() -> Row {
         vec![0; 65_537],
     ];
     for set in &sets {
-        row.sets += 1;
+        row.counts.one("how many");
         for function in 0..=255 {
             let rates = [None, Some(DEFAULTS)].into_iter();
             for rates in rates.filter(|rates| is_absent(function, *rates)) {
                 for room in [0, 1, ROOM] {
-                    row.compare(&Call { function, rates, set, room }, &Found::Number(0));
+                    row.compare_umi(&Call { function, rates, set, room }, &Found::Number(0));
                 }
             }
         }

@@ -15,7 +15,7 @@ pub fn row(sets: u64, random: &mut Random) -> Row {
         row.count_rates(rates);
         let shape = shape(random);
         let set = written(&any_kind(shape, random));
-        row.sets += 1;
+        row.counts.one("how many");
         for function in Function::ALL.into_iter().filter(|function| function.is_of_caller()) {
             row.compare_function(function, rates, &set);
         }

@@ -5,6 +5,7 @@ use super::families::{any_kind, shape, small_shape};
 use super::file_form::written;
 use super::function::{DEFAULTS, Function};
 use super::row::Row;
+use crate::outcome::every_room;
 use crate::random::Random;
 
 /// One set is compared in many rooms for so many that are asked for.
@@ -23,22 +24,18 @@ pub fn row(sets: u64, random: &mut Random) -> Row {
 
 /// A set in the rooms that there are for what it needs.
 fn compare(set: &[u8], rooms: fn(usize) -> Vec<usize>, row: &mut Row) {
-    row.sets += 1;
+    row.counts.one("how many");
     for function in Function::ALL {
-        let Some(found) = row.found(function, DEFAULTS, set) else {
+        let Some(found) = row.found_of_set(function, DEFAULTS, set) else {
             continue;
         };
         for mut call in calls(function, DEFAULTS, set) {
             for room in rooms(call.needed(&found)) {
                 call.room = room;
-                row.compare(&call, &found);
+                row.compare_umi(&call, &found);
             }
         }
     }
-}
-
-fn every_room(needed: usize) -> Vec<usize> {
-    (0..needed + 3).chain([needed + 1000]).collect()
 }
 
 fn some_rooms(needed: usize) -> Vec<usize> {

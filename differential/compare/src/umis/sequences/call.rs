@@ -2,7 +2,7 @@
 
 use crate::exports;
 use crate::hexadecimal::digits;
-use crate::umis::call::{GUARD, untouched};
+use crate::outcome::Outcome;
 use crate::umis::function::{Rates, name};
 
 /// A call of `consensus_umi_sets`.
@@ -15,24 +15,15 @@ pub struct Call<'a> {
     pub room: usize,
 }
 
-/// The reply, and the buffer with the bytes beside it.
-pub type Outcome = (u64, Vec<u8>);
-
 impl Call<'_> {
     pub fn ours(&self) -> Outcome {
-        let mut bytes = untouched(self.room);
-        let out = &mut bytes[GUARD..GUARD + self.room];
-        (exports::umi_sets(self.rates, self.function, self.sets, out), bytes)
+        Outcome::of(self.room, |out| exports::umi_sets(self.rates, self.function, self.sets, out))
     }
 
     /// What is demanded where this is to be written; a call that is refused leaves the buffer.
     pub fn demanded(&self, answer: Option<&[u8]>) -> Outcome {
-        let mut bytes = untouched(self.room);
-        let Some(answer) = answer.filter(|answer| answer.len() <= self.room) else {
-            return (0, bytes);
-        };
-        bytes[GUARD..GUARD + answer.len()].copy_from_slice(answer);
-        (answer.len() as u64, bytes)
+        let answer = answer.filter(|answer| answer.len() <= self.room).unwrap_or_default();
+        Outcome::written(self.room, answer.len() as u64, answer)
     }
 
     pub fn words(&self) -> String {
@@ -48,14 +39,6 @@ impl Call<'_> {
 
 /// How an outcome differs from what is demanded.
 pub fn difference(ours: &Outcome, demanded: &Outcome) -> String {
-    let replies = format!("the reply {}, demanded {}", ours.0, demanded.0);
-    let mut pairs = ours.1.iter().zip(&demanded.1);
-    pairs.position(|(ours, demanded)| ours != demanded).map_or(replies.clone(), |place| {
-        format!(
-            "{replies}; byte {} of the buffer is {:02x}, demanded {:02x}",
-            place as i64 - GUARD as i64,
-            ours.1[place],
-            demanded.1[place],
-        )
-    })
+    let replies = format!("the reply {}, demanded {}", ours.reply, demanded.reply);
+    ours.difference(demanded, replies)
 }

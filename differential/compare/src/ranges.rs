@@ -1,39 +1,146 @@
-//! The arguments of phred.rs' functions that are drawn.
+//! The arguments that are drawn.
 
 use std::f64::consts::LN_10;
 
 use oracle::phred::{ln_sum_exp, phred_to_ln_error_prob};
 
-use super::arguments::{Arguments, LIMITS, MOST_LANES, USUAL_LANES};
-use super::formula::LN_FOUR_THIRDS;
-use super::function::Function;
-use crate::arguments::{Draw, beside};
+use crate::arguments::{Arguments, ELEMENTARY_LIMITS, MOST_LANES, PHRED_LIMITS, USUAL_LANES};
+use crate::function::{Function, Takes};
+use crate::phred::formula::LN_FOUR_THIRDS;
 use crate::random::Random;
 
-/// A way to draw the arguments of a call.
+/// A way to draw a number.
+#[derive(Clone, Copy)]
+pub enum Draw {
+    /// Evenly between two numbers, both of them included.
+    Evenly(f64, f64),
+    /// Between two positive numbers, each power of two as likely as any other.
+    ByExponent(f64, f64),
+    /// The same, with either sign.
+    EitherSign(f64, f64),
+    /// One of these numbers or its negative, or up to 2^44 places off.
+    Beside(&'static [f64]),
+    /// Any bit pattern, infinities and NaNs among them.
+    AnyBits,
+}
+
+impl Draw {
+    pub fn next(self, random: &mut Random) -> f64 {
+        match self {
+            Self::Evenly(low, high) => random.between(low, high),
+            Self::ByExponent(low, high) => by_exponent(random, low, high),
+            Self::EitherSign(low, high) => {
+                let magnitude = by_exponent(random, low, high);
+                random.signed(magnitude)
+            }
+            Self::Beside(numbers) => {
+                let number = numbers[random.below(numbers.len() as u64) as usize];
+                let beside = beside(random, number);
+                random.signed(beside)
+            }
+            Self::AnyBits => f64::from_bits(random.bits()),
+        }
+    }
+}
+
+fn by_exponent(random: &mut Random, low: f64, high: f64) -> f64 {
+    let (low, high) = (low.to_bits(), high.to_bits());
+    f64::from_bits(low + random.below(high - low + 1))
+}
+
+/// A number some places above or below, near ones as likely as far ones.
+pub fn beside(random: &mut Random, number: f64) -> f64 {
+    let reach = 1_u64 << random.below(45);
+    let places = random.below(reach);
+    let bits = number.to_bits();
+    let up = random.below(2) == 0;
+    f64::from_bits(if up { bits.wrapping_add(places) } else { bits.wrapping_sub(places) })
+}
+
+/// What is demanded of answers.
+#[derive(Clone, Copy)]
+pub enum Demand {
+    /// They differ by so many units in the last place at most.
+    Ulps(u64),
+    /// They differ by the last bit of an elementary function alone.
+    SameFormula,
+}
+
+/// A way to draw the arguments of a call, and what is demanded there.
 pub struct Range {
     pub name: &'static str,
+    pub demand: Demand,
     pub draw: fn(&mut Random) -> Arguments,
 }
 
+/// Of an elementary function, with so many units in the last place.
+const fn within(allowed: u64, name: &'static str, draw: fn(&mut Random) -> Arguments) -> Range {
+    Range { name, demand: Demand::Ulps(allowed), draw }
+}
+
 const fn range(name: &'static str, draw: fn(&mut Random) -> Arguments) -> Range {
-    Range { name, draw }
+    Range { name, demand: Demand::SameFormula, draw }
 }
 
 /// The ranges of a function, the caller's first. A function of a level has none: all levels are
 /// chosen.
 pub fn ranges(function: &Function) -> Vec<&'static Range> {
-    match function.letter {
-        b'q' | b'r' => Vec::new(),
-        b'f' => [&LEVEL_BORDERS].into_iter().chain(&OF_ONE).collect(),
-        b'g' | b'c' | b'n' => OF_ONE.iter().collect(),
-        b'd' => [&TERMS].into_iter().chain(&OF_TWO).collect(),
-        b't' => OF_TWO.iter().chain([&PANIC_BORDER]).collect(),
-        b's' | b'z' => OF_TWO.iter().collect(),
-        b'a' => OF_LANES.iter().collect(),
-        letter => unreachable!("no function has the letter {}", letter as char),
+    match (function.letter, function.takes) {
+        (b'e', _) => OF_EXP.iter().collect(),
+        (b'l', _) => OF_LN.iter().collect(),
+        (b'p', _) => OF_LN_1P.iter().collect(),
+        (b'm', _) => OF_EXP_M1.iter().collect(),
+        (b'f', _) => [&LEVEL_BORDERS].into_iter().chain(&OF_ONE).collect(),
+        (b'd', _) => [&TERMS].into_iter().chain(&OF_TWO).collect(),
+        (b't', _) => OF_TWO.iter().chain([&PANIC_BORDER]).collect(),
+        (_, Takes::Level) => Vec::new(),
+        (_, Takes::Number) => OF_ONE.iter().collect(),
+        (_, Takes::Pair) => OF_TWO.iter().collect(),
+        (_, Takes::Lanes) => OF_LANES.iter().collect(),
     }
 }
+
+const BESIDE_ONE: Draw = Draw::Beside(&[1.0]);
+const POSITIVE: Draw = Draw::ByExponent(f64::from_bits(1), f64::MAX);
+const BESIDE_ELEMENTARY_LIMIT: Draw = Draw::Beside(&ELEMENTARY_LIMITS);
+
+// One unit is allowed, with one exception: above half of ln 2, where the caller has no use for it, our
+// exp_m1 is exp less 1, which costs up to one unit more.
+
+static OF_EXP: [Range; 5] = [
+    within(1, "[-30, 0]", |random| one(Draw::Evenly(-30.0, 0.0), random)),
+    within(1, "[-746, 710]", |random| one(Draw::Evenly(-746.0, 710.0), random)),
+    within(1, "beside 0", |random| one(BESIDE_ZERO, random)),
+    within(1, "beside a limit", |random| one(BESIDE_ELEMENTARY_LIMIT, random)),
+    within(1, "any bit pattern", |random| one(Draw::AnyBits, random)),
+];
+
+static OF_LN: [Range; 5] = [
+    within(1, "(0, 4]", |random| one(Draw::Evenly(f64::from_bits(1), 4.0), random)),
+    within(1, "beside 1 and -1", |random| one(BESIDE_ONE, random)),
+    within(1, "(0, infinity)", |random| one(POSITIVE, random)),
+    within(1, "beside a limit", |random| one(BESIDE_ELEMENTARY_LIMIT, random)),
+    within(1, "any bit pattern", |random| one(Draw::AnyBits, random)),
+];
+
+static OF_LN_1P: [Range; 6] = [
+    within(1, "[-1, 3]", |random| one(Draw::Evenly(-1.0, 3.0), random)),
+    within(1, "beside 0", |random| one(BESIDE_ZERO, random)),
+    within(1, "beside 1 and -1", |random| one(BESIDE_ONE, random)),
+    within(1, "(0, infinity)", |random| one(POSITIVE, random)),
+    within(1, "beside a limit", |random| one(BESIDE_ELEMENTARY_LIMIT, random)),
+    within(1, "any bit pattern", |random| one(Draw::AnyBits, random)),
+];
+
+static OF_EXP_M1: [Range; 7] = [
+    within(1, "[-0.7, 0]", |random| one(Draw::Evenly(-0.7, 0.0), random)),
+    within(1, "[-2, 0]", |random| one(Draw::Evenly(-2.0, 0.0), random)),
+    within(2, "[0, 2]", |random| one(Draw::Evenly(0.0, 2.0), random)),
+    within(2, "[-746, 710]", |random| one(Draw::Evenly(-746.0, 710.0), random)),
+    within(2, "beside 0", |random| one(BESIDE_ZERO, random)),
+    within(2, "beside a limit", |random| one(BESIDE_ELEMENTARY_LIMIT, random)),
+    within(2, "any bit pattern", |random| one(Draw::AnyBits, random)),
+];
 
 /// Logarithms of probabilities, as the caller has them.
 const LOGARITHM: Draw = Draw::Evenly(-60.0, 0.0);
@@ -41,8 +148,9 @@ const LOGARITHM: Draw = Draw::Evenly(-60.0, 0.0);
 const GAP: Draw = Draw::Evenly(0.0, 256.0);
 /// Beyond the arguments at which exp is infinite or 0.
 const WIDE: Draw = Draw::Evenly(-800.0, 800.0);
+/// From 2^-62 on.
 const BESIDE_ZERO: Draw = Draw::EitherSign(f64::from_bits(0x3c10_0000_0000_0000), 1.0);
-const BESIDE_LIMIT: Draw = Draw::Beside(&LIMITS);
+const BESIDE_LIMIT: Draw = Draw::Beside(&PHRED_LIMITS);
 const ANY_EXPONENT: Draw = Draw::EitherSign(f64::from_bits(1), f64::MAX);
 
 static OF_ONE: [Range; 7] = [
