@@ -20,7 +20,7 @@ use Rattle.umi_column.proofs.SumLaws.{sums-byte}
 use Rattle.tie_rules.specs.declared.tie_rule.TieRule.{TieRule}
 use Rattle.rate_tables.proofs.Filled.{listed-length, level-at}
 use Rattle.umi_column.specs.Verdicts.{verdictOf}
-use Rattle.umi_column.specs.declared.sums.LaneSums.{LaneSums}
+use Rattle.base_builder.specs.declared.observation.LaneSums.{LaneSums}
 use Rattle.umi_column.specs.Sums.{windowOf, summedBy, summedAll}
 use Rattle.umi_family.specs.Rows.{bytesAt, columnsAt}
 use Rattle.umi_family.specs.Family.{builderBy, bytesBy, byteSummed, bytesSummed, lastBy}
