@@ -12,11 +12,12 @@ use Rattle.phred.specs.declared.LogProbability.{LogProbability}
 use Rattle.tie_rules.specs.declared.tie_rule.TieRule.{TieRule}
 use Rattle.tie_rules.specs.declared.tie_rule.TieRule.the-variants.{FgbioCompat}
 use Rattle.base_builder.specs.declared.observation.Sum.{Sum}
+use Rattle.base_builder.specs.declared.observation.LaneSums.{LaneSums}
 use Rattle.base_builder.specs.declared.builder.ConsensusBaseBuilder.{ConsensusBaseBuilder}
 use Rattle.base_builder.specs.declared.builder.Answer.{Answer}
 use Rattle.base_builder.specs.declared.builder.Answer.the-variants.{Accepted, Refused}
-use Rattle.tie_rules.specs.Lanes.{lanes, lane, noLane, laneOfByte, counted}
-use Rattle.base_builder.specs.Observation.{movedBy, valueOf, countOf}
+use Rattle.tie_rules.specs.Lanes.{lanes, noLane, laneOfByte, counted}
+use Rattle.base_builder.specs.Observation.{sumAt, movedLanes, valueOf, countOf}
 
 -- all counts together
 unfoldable pub total : List ℕ → ℕ
@@ -52,24 +53,28 @@ withTieRule rule b =
 unfoldable pub resetOf : ConsensusBaseBuilder → ConsensusBaseBuilder
 resetOf b = cleared (b .«tie_rule») (b .«ln_error_pre_umi»)
 
--- a lane's sum and compensation
+-- the sums of a builder's lanes
+abbrev pub sumsOf : ConsensusBaseBuilder → LaneSums
+sumsOf b = record { likelihoods = b .likelihoods; compensations = b .compensations }
+
+-- that of one lane
 abbrev pub sumOf : ConsensusBaseBuilder → ℕ → Sum
-sumOf b i = record { lane = lane (b .likelihoods) i; compensation = lane (b .compensations) i }
+sumOf b i = sumAt (sumsOf b) i
 
--- the sum of lane i after lane k was observed with these two logarithms
-unfoldable pub movedLane : Float → Float → ℕ → ConsensusBaseBuilder → ℕ → Sum
-movedLane correct error k b i = movedBy (valueOf correct error k i) (sumOf b i)
-
--- the builder after lane k was observed
-unfoldable pub observed : Float → Float → ℕ → ConsensusBaseBuilder → ConsensusBaseBuilder
-observed correct error k b =
+-- the builder after lane k was observed: each lane moved by its value, and lane k counted
+abbrev pub observedBy : (ℕ → Float) → ℕ → ConsensusBaseBuilder → ConsensusBaseBuilder
+observedBy value k b =
     record {
-      likelihoods = lanes (λ i. movedLane correct error k b i .lane);
-      compensations = lanes (λ i. movedLane correct error k b i .compensation);
+      likelihoods = movedLanes value (sumsOf b) .likelihoods;
+      compensations = movedLanes value (sumsOf b) .compensations;
       observations = lanes (λ i. countOf (counted (b .observations) i) k i);
       «tie_rule» = b .«tie_rule»;
       «ln_error_pre_umi» = b .«ln_error_pre_umi»;
     }
+
+-- the same where the values are made of these two logarithms
+unfoldable pub observed : Float → Float → ℕ → ConsensusBaseBuilder → ConsensusBaseBuilder
+observed correct error k b = observedBy (valueOf correct error k) k b
 
 -- the entry of a quality: qualities above 93 use entry 93
 abbrev pub entryOf : ℕ → ℕ

@@ -2,11 +2,12 @@
 // observed. It goes in by value and comes back.
 ghost use mathlib.Core.Path.{_≡_};
 ghost use Prim.Native.Nat.{_<_};
-ghost use Rattle.base_builder.specs.Builder.{total as totalOf, cleared as clearedOf, newAt, withTieRule, resetOf, movedLane, observed as observedOf, entryOf, addedBy, added, answerOf, numberOf, refusalOf, contributionsOf, observationsForBase};
-use crate::observation::Sum;
+ghost use Rattle.tie_rules.specs.Lanes.{lane};
+ghost use Rattle.base_builder.specs.Builder.{total as totalOf, cleared as clearedOf, newAt, withTieRule, resetOf, observedBy, entryOf, addedBy, added, answerOf, numberOf, refusalOf, contributionsOf, observationsForBase};
+use crate::observation::LaneSums;
 use crate::observation::count;
-use crate::observation::moved;
-use crate::observation::value;
+use crate::observation::moved_lanes;
+use crate::observation::values;
 use phred::LogProbability;
 use phred::PhredScore;
 use rate_tables::AdjustedProbabilityTables;
@@ -197,7 +198,7 @@ pub fn add_entry(
             answer: Answer::Refused,
         };
     }
-    let builder = observed(builder, correct, error_per_alt, k);
+    let builder = observed(builder, values(correct, error_per_alt, k), k);
     Addition {
         builder,
         answer: Answer::Accepted,
@@ -215,43 +216,25 @@ pub fn entry(qual: PhredScore) -> usize
     q as usize
 }
 
-// Lane i after lane k was observed.
-fn moved_lane(builder: ConsensusBaseBuilder, correct: f64, error: f64, k: usize, i: usize) -> Sum
-    requires { ⌜ i < 4 ⌝ }
-    ensures { λ r. ⌜ r ≡ movedLane correct error k builder i ⌝ }
+// The builder after lane k was observed: each lane moved by its value, and lane k counted.
+pub fn observed(builder: ConsensusBaseBuilder, values: [f64; 4], k: usize) -> ConsensusBaseBuilder
+    ensures { λ r. ⌜ r ≡ observedBy (lane values) k builder ⌝ }
 {
     let likelihoods = builder.likelihoods;
     let compensations = builder.compensations;
-    let sum = Sum {
-        lane: likelihoods[i],
-        compensation: compensations[i],
+    let sums = LaneSums {
+        likelihoods,
+        compensations,
     };
-    moved(value(correct, error, k, i), sum)
-}
-
-fn observed(
-    builder: ConsensusBaseBuilder,
-    correct: f64,
-    error: f64,
-    k: usize,
-) -> ConsensusBaseBuilder
-    ensures { λ r. ⌜ r ≡ observedOf correct error k builder ⌝ }
-{
-    let a = moved_lane(builder, correct, error, k, 0);
-    let c = moved_lane(builder, correct, error, k, 1);
-    let g = moved_lane(builder, correct, error, k, 2);
-    let t = moved_lane(builder, correct, error, k, 3);
+    let after = moved_lanes(sums, values);
+    let likelihoods = after.likelihoods;
+    let compensations = after.compensations;
     let n = builder.observations;
     let rule = builder.tie_rule;
     let pre = builder.ln_error_pre_umi;
     ConsensusBaseBuilder {
-        likelihoods: [a.lane, c.lane, g.lane, t.lane],
-        compensations: [
-            a.compensation,
-            c.compensation,
-            g.compensation,
-            t.compensation,
-        ],
+        likelihoods,
+        compensations,
         observations: [
             count(n[0], k, 0),
             count(n[1], k, 1),

@@ -1,6 +1,8 @@
-// What one observation does to one lane.
+// What one observation does to the lanes.
 ghost use mathlib.Core.Path.{_≡_};
-ghost use Rattle.base_builder.specs.Observation.{valueOf, movedBy, countOf};
+ghost use Prim.Native.Nat.{_<_};
+ghost use Rattle.tie_rules.specs.Lanes.{lanes, lane};
+ghost use Rattle.base_builder.specs.Observation.{movedBy, sumAt, movedLanes, valueOf, countOf};
 
 // A lane's running sum and its compensation.
 pub struct Sum {
@@ -8,8 +10,14 @@ pub struct Sum {
     pub compensation: f64,
 }
 
+// Those of the four lanes.
+pub struct LaneSums {
+    pub likelihoods: [f64; 4],
+    pub compensations: [f64; 4],
+}
+
 // Kahan's step.
-pub fn moved(value: f64, s: Sum) -> Sum
+fn moved(value: f64, s: Sum) -> Sum
     ensures { λ r. ⌜ r ≡ movedBy value s ⌝ }
 {
     let y = value - s.compensation;
@@ -20,8 +28,40 @@ pub fn moved(value: f64, s: Sum) -> Sum
     }
 }
 
+fn moved_lane(sums: LaneSums, value: f64, i: usize) -> Sum
+    requires { ⌜ i < 4 ⌝ }
+    ensures { λ r. ⌜ r ≡ movedBy value (sumAt sums i) ⌝ }
+{
+    let likelihoods = sums.likelihoods;
+    let compensations = sums.compensations;
+    let sum = Sum {
+        lane: likelihoods[i],
+        compensation: compensations[i],
+    };
+    moved(value, sum)
+}
+
+// Each lane moved by its value.
+pub fn moved_lanes(sums: LaneSums, values: [f64; 4]) -> LaneSums
+    ensures { λ r. ⌜ r ≡ movedLanes (lane values) sums ⌝ }
+{
+    let a = moved_lane(sums, values[0], 0);
+    let c = moved_lane(sums, values[1], 1);
+    let g = moved_lane(sums, values[2], 2);
+    let t = moved_lane(sums, values[3], 3);
+    LaneSums {
+        likelihoods: [a.lane, c.lane, g.lane, t.lane],
+        compensations: [
+            a.compensation,
+            c.compensation,
+            g.compensation,
+            t.compensation,
+        ],
+    }
+}
+
 // What lane i is moved by where lane k was observed.
-pub fn value(correct: f64, error: f64, k: usize, i: usize) -> f64
+fn value(correct: f64, error: f64, k: usize, i: usize) -> f64
     ensures { λ r. ⌜ r ≡ valueOf correct error k i ⌝ }
 {
     if i == k {
@@ -30,8 +70,20 @@ pub fn value(correct: f64, error: f64, k: usize, i: usize) -> f64
     error
 }
 
+// The same of each lane.
+pub(crate) fn values(correct: f64, error: f64, k: usize) -> [f64; 4]
+    ensures { λ r. ⌜ r ≡ lanes (valueOf correct error k) ⌝ }
+{
+    [
+        value(correct, error, k, 0),
+        value(correct, error, k, 1),
+        value(correct, error, k, 2),
+        value(correct, error, k, 3),
+    ]
+}
+
 // The count of lane i after lane k was observed.
-pub fn count(n: u32, k: usize, i: usize) -> u32
+pub(crate) fn count(n: u32, k: usize, i: usize) -> u32
     ensures { λ r. ⌜ r ≡ countOf n k i ⌝ }
 {
     if i == k {

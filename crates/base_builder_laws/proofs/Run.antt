@@ -20,8 +20,8 @@ use Rattle.tie_rules.specs.declared.tie_rule.TieRule.{TieRule}
 use Rattle.tie_rules.specs.Lanes.{lane, noLane, laneOfByte, counted}
 use Rattle.tie_rules.proofs.Lanes.{lanes-at, lane-of-byte}
 use Rattle.base_builder.specs.declared.builder.ConsensusBaseBuilder.{ConsensusBaseBuilder}
-use Rattle.base_builder.specs.Observation.{countOf}
-use Rattle.base_builder.specs.Builder.{total, cleared, newAt, withTieRule, resetOf, sumOf, movedLane, observed, entryOf, isFull, addedBy, added, fullCount}
+use Rattle.base_builder.specs.Observation.{movedBy, valueOf, countOf}
+use Rattle.base_builder.specs.Builder.{total, cleared, newAt, withTieRule, resetOf, sumOf, observed, entryOf, isFull, addedBy, added, fullCount}
 use Rattle.base_builder.specs.History.{Event, add, reset, setTieRule, step, run, after}
 use Rattle.base_builder_laws.specs.Counted.{Observation, countedSince, valuesOf, kahan, timesOf}
 
@@ -75,13 +75,13 @@ module _ (t : AdjustedProbabilityTables) (os : List Observation) (b : ConsensusB
 
   observed-holds : (k q : ℕ) → k < 4 → length os < fullCount
       → Holds t (record { at = k; quality = q } ∷ os) (observed (getD (t .correct) (entryOf q) nan) (getD (t .«error_per_alt») (entryOf q) nan) k b)
-  unfolding observed movedLane valuesOf kahan timesOf countOf
+  unfolding observed valuesOf kahan timesOf countOf
   observed-holds k q h f =
       let c = getD (t .correct) (entryOf q) nan in
       let e = getD (t .«error_per_alt») (entryOf q) nan in
       record {
         sums = λ (i : ℕ) (l : i < 4).
-            rw (lanes-at (λ j. movedLane c e k b j .lane) nan i l, lanes-at (λ j. movedLane c e k b j .compensation) nan i l, had .sums i l);
+            rw (lanes-at (λ j. movedBy (valueOf c e k j) (sumOf b j) .lane) nan i l, lanes-at (λ j. movedBy (valueOf c e k j) (sumOf b j) .compensation) nan i l, had .sums i l);
         counts = λ (i : ℕ) (l : i < 4).
             let m = times-most i os in
             lanes-at (λ j. countOf (counted (b .observations) j) k j) 0 i l

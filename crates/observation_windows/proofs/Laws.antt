@@ -14,8 +14,8 @@ use Rattle.tie_rules.specs.Lanes.{lanes, noLane, laneOfByte}
 use Rattle.tie_rules.proofs.Lanes.{lane-of-byte}
 use Rattle.base_builder.specs.declared.builder.ConsensusBaseBuilder.{ConsensusBaseBuilder}
 use Rattle.base_builder.specs.Observation.{valueOf}
-use Rattle.base_builder.specs.Builder.{entryOf, movedLane, observed, isFull, addedBy, added}
-use Rattle.observation_windows.specs.Windows.{windowEntry, windowsOf, windowAt, windowMoved, windowObserved, windowAdded}
+use Rattle.base_builder.specs.Builder.{entryOf, observed, isFull, addedBy, added}
+use Rattle.observation_windows.specs.Windows.{windowEntry, windowsOf, windowAt, windowObserved, windowAdded}
 
 module _ (correct error : List Float) where
   -- place j of row e
@@ -39,15 +39,11 @@ module _ (correct error : List Float) where
         (λ e. rw (e, eq-eqb (3 - k + i) 3 (omega (arith, eqb-true i k e))))
         (λ e. let d = eqb-false i k e in rw (e, ne-eqb (3 - k + i) 3 (λ f. d (omega arith))))
 
-    lane-moved : (b : ConsensusBaseBuilder) → windowMoved (windowsOf correct error) (windowAt q k) b i ≡ movedLane (getD correct (entryOf q) nan) (getD error (entryOf q) nan) k b i
-    unfolding windowMoved movedLane
-    lane-moved b = rw window-at
-
   observed-same : (q k : ℕ) (b : ConsensusBaseBuilder) → k < 4
       → windowObserved (windowsOf correct error) (windowAt q k) k b ≡ observed (getD correct (entryOf q) nan) (getD error (entryOf q) nan) k b
   unfolding windowObserved observed lanes
   observed-same q k b h =
-      rw (lane-moved q k 0 h (omega arith) b, lane-moved q k 1 h (omega arith) b, lane-moved q k 2 h (omega arith) b, lane-moved q k 3 h (omega arith) b)
+      rw (window-at q k 0 h (omega arith), window-at q k 1 h (omega arith), window-at q k 2 h (omega arith), window-at q k 3 h (omega arith))
 
   -- so of any byte, at any quality and to any builder
   pub added-same : (base q : ℕ) (b : ConsensusBaseBuilder) → windowAdded (windowsOf correct error) base q b ≡ added correct error base q b

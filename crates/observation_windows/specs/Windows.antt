@@ -7,11 +7,9 @@ use lib.ListN.{getD}
 use lib.Ieee.{Float, nan}
 use Rattle.words.specs.Choice.{if_then_else_}
 use Rattle.words.specs.Lists.{listed}
-use Rattle.tie_rules.specs.Lanes.{lanes, noLane, laneOfByte, counted}
-use Rattle.base_builder.specs.declared.observation.Sum.{Sum}
+use Rattle.tie_rules.specs.Lanes.{noLane, laneOfByte}
 use Rattle.base_builder.specs.declared.builder.ConsensusBaseBuilder.{ConsensusBaseBuilder}
-use Rattle.base_builder.specs.Observation.{movedBy, countOf}
-use Rattle.base_builder.specs.Builder.{sumOf, entryOf, isFull}
+use Rattle.base_builder.specs.Builder.{observedBy, entryOf, isFull}
 
 -- ---- the table
 
@@ -31,20 +29,9 @@ windowAt q k = 8 * entryOf q + (3 - k)
 
 -- ---- observations, by any table
 
--- the sum of lane i by the window that starts at a place
-unfoldable pub windowMoved : List Float → ℕ → ConsensusBaseBuilder → ℕ → Sum
-windowMoved rows from b i = movedBy (getD rows (from + i) nan) (sumOf b i)
-
--- the builder after lane k was observed
+-- the builder after lane k was observed, with the window that starts at a place
 unfoldable pub windowObserved : List Float → ℕ → ℕ → ConsensusBaseBuilder → ConsensusBaseBuilder
-windowObserved rows from k b =
-    record {
-      likelihoods = lanes (λ i. windowMoved rows from b i .lane);
-      compensations = lanes (λ i. windowMoved rows from b i .compensation);
-      observations = lanes (λ i. countOf (counted (b .observations) i) k i);
-      «tie_rule» = b .«tie_rule»;
-      «ln_error_pre_umi» = b .«ln_error_pre_umi»;
-    }
+windowObserved rows from k b = observedBy (λ i. getD rows (from + i) nan) k b
 
 -- after a base was added at a quality: a byte that is no base is ignored, and a full builder stays as it is
 unfoldable pub windowAdded : List Float → ℕ → ℕ → ConsensusBaseBuilder → ConsensusBaseBuilder

@@ -2,16 +2,14 @@
 // builder that is not a constant: so lanes, compensations and counts stay in registers.
 ghost use mathlib.Core.Path.{_≡_};
 ghost use mathlib.Core.Bool.{false, not};
-ghost use Prim.Native.Nat.{_+_, _-_, _<_};
+ghost use Prim.Native.Nat.{_-_, _<_};
 ghost use lib.Dec.{eqb};
 ghost use Rattle.tie_rules.specs.Lanes.{noLane, laneOfByte};
 ghost use Rattle.base_builder.specs.Builder.{total as totalOf, fullCount};
-ghost use Rattle.observation_windows.specs.Windows.{windowMoved, windowObserved, allAdded};
+ghost use Rattle.observation_windows.specs.Windows.{windowObserved, allAdded};
 use base_builder::ConsensusBaseBuilder;
-use base_builder::Sum;
-use base_builder::count;
 use base_builder::entry;
-use base_builder::moved;
+use base_builder::observed;
 use base_builder::total;
 use phred::PhredScore;
 
@@ -49,21 +47,7 @@ fn room(observations: [u32; 4]) -> u64
     base_builder::FULL_COUNT - counted
 }
 
-// Lane i after an observation whose window starts at a place.
-fn moved_lane(builder: ConsensusBaseBuilder, rows: &[f64; 752], from: usize, i: usize) -> Sum
-    requires { ⌜ (i < 4) × (from + i < 752) ⌝ }
-    ensures { λ r. ⌜ r ≡ windowMoved (now (rows .entry)) from builder i ⌝ }
-{
-    let lanes = builder.likelihoods;
-    let compensations = builder.compensations;
-    let sum = Sum {
-        lane: lanes[i],
-        compensation: compensations[i],
-    };
-    moved(rows[from + i], sum)
-}
-
-// The builder after lane k was observed.
+// The builder after lane k was observed, with the window that starts at a place.
 fn step(
     builder: ConsensusBaseBuilder,
     rows: &[f64; 752],
@@ -73,30 +57,8 @@ fn step(
     requires { ⌜ from < 749 ⌝ }
     ensures { λ r. ⌜ r ≡ windowObserved (now (rows .entry)) from k builder ⌝ }
 {
-    let a = moved_lane(builder, rows, from, 0);
-    let c = moved_lane(builder, rows, from, 1);
-    let g = moved_lane(builder, rows, from, 2);
-    let t = moved_lane(builder, rows, from, 3);
-    let n = builder.observations;
-    let rule = builder.tie_rule;
-    let pre = builder.ln_error_pre_umi;
-    ConsensusBaseBuilder {
-        likelihoods: [a.lane, c.lane, g.lane, t.lane],
-        compensations: [
-            a.compensation,
-            c.compensation,
-            g.compensation,
-            t.compensation,
-        ],
-        observations: [
-            count(n[0], k, 0),
-            count(n[1], k, 1),
-            count(n[2], k, 2),
-            count(n[3], k, 3),
-        ],
-        tie_rule: rule,
-        ln_error_pre_umi: pre,
-    }
+    let values = [rows[from], rows[from + 1], rows[from + 2], rows[from + 3]];
+    observed(builder, values, k)
 }
 
 // All observations, base and quality in turn.

@@ -18,7 +18,7 @@ use Rattle.tie_rules.specs.Lanes.{lanes, laneOfByte, baseOf}
 use Rattle.tie_rules.specs.Ties.{fgbioTie, fgbioStep, scan, fgbioUniqueMaxIndex, notMinusInfinity, uniqueMaxIndexWith}
 use Rattle.rate_tables.specs.declared.adjusted.AdjustedEntry.{AdjustedEntry}
 use Rattle.base_builder.specs.Observation.{movedBy, valueOf, countOf}
-use Rattle.base_builder.specs.Builder.{total, cleared, newAt, resetOf, movedLane, observed, isFull, addedBy}
+use Rattle.base_builder.specs.Builder.{total, cleared, newAt, resetOf, observed, isFull, addedBy}
 use Rattle.umi_column.specs.Dna.{toAsciiUppercase, isDnaBase}
 use Rattle.umi_column.specs.Verdicts.{isMixed, verdictOf}
 use Rattle.umi_column.specs.Calls.{addedAll, namedByte}
@@ -43,7 +43,7 @@ abbrev columns : List (List ℕ)
 columns = (65 ∷ 65 ∷ 65 ∷ []) ∷ (67 ∷ 67 ∷ 71 ∷ []) ∷ []
 
 named : bytesBy entry (newAt 90) columns ≡ 65 ∷ 67 ∷ []
-unfolding add sub div neg lt le eq isNan ofBits absOf namedByte isDnaBase toAsciiUppercase addedAll addedBy isFull total observed movedLane movedBy valueOf countOf lanes laneOfByte baseOf resetOf cleared newAt uniqueMaxIndexWith fgbioUniqueMaxIndex notMinusInfinity scan fgbioStep fgbioTie
+unfolding add sub div neg lt le eq isNan ofBits absOf namedByte isDnaBase toAsciiUppercase addedAll addedBy isFull total observed movedBy valueOf countOf lanes laneOfByte baseOf resetOf cleared newAt uniqueMaxIndexWith fgbioUniqueMaxIndex notMinusInfinity scan fgbioStep fgbioTie
 named = refl
 
 bytes : map (byteOf defaultCaller) columns ≡ 65 ∷ 67 ∷ []

@@ -11,7 +11,7 @@ use Rattle.words.specs.Lists.{listed}
 use Rattle.tie_rules.specs.Lanes.{lanes, baseOf, laneOfByte}
 use Rattle.tie_rules.specs.Ties.{fgbioTie, fgbioStep, scan, fgbioUniqueMaxIndex, notMinusInfinity, uniqueMaxIndexWith}
 use Rattle.base_builder.specs.Observation.{movedBy, valueOf, countOf}
-use Rattle.base_builder.specs.Builder.{newAt, cleared, resetOf, total, isFull, movedLane, observed, addedBy}
+use Rattle.base_builder.specs.Builder.{newAt, cleared, resetOf, total, isFull, observed, addedBy}
 use Rattle.umi_column.specs.Dna.{toAsciiUppercase, isDnaBase}
 use Rattle.umi_column.specs.Verdicts.{isMixed, verdictOf}
 use Rattle.umi_column.specs.Calls.{columnBuilder, columnByte, addedAll, namedByte}
@@ -34,5 +34,5 @@ unfolding laneByte
 lane-byte column = sym (column-byte 90 90 20 column (newAt 90)) ∙ rw (← column-builder 90 20 column (newAt 90), correct-entry, error-entry)
 
 pub examples : T (all claims)
-unfolding laneByte namedByte addedAll resetOf newAt cleared sub div le isNan ofBits absOf lanes baseOf laneOfByte fgbioTie fgbioStep scan fgbioUniqueMaxIndex notMinusInfinity uniqueMaxIndexWith movedBy valueOf countOf total isFull movedLane observed addedBy toAsciiUppercase isDnaBase listed isMixed verdictOf byte front many string stringSet readSet columnsOf alike isFamily firstRefusal familyVerdict consensusVerdict umisVerdict callVerdict callerAt familyFound firstFound found roomFor callConsensusIn consensusIn consensusUmisIn gives refuses givesNone
+unfolding laneByte namedByte addedAll resetOf newAt cleared sub div le isNan ofBits absOf lanes baseOf laneOfByte fgbioTie fgbioStep scan fgbioUniqueMaxIndex notMinusInfinity uniqueMaxIndexWith movedBy valueOf countOf total isFull observed addedBy toAsciiUppercase isDnaBase listed isMixed verdictOf byte front many string stringSet readSet columnsOf alike isFamily firstRefusal familyVerdict consensusVerdict umisVerdict callVerdict callerAt familyFound firstFound found roomFor callConsensusIn consensusIn consensusUmisIn gives refuses givesNone
 examples = simp lane-byte tt

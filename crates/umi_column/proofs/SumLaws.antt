@@ -11,12 +11,12 @@ use lib.ListN.{length, getD}
 use Rattle.words.specs.Choice.{if_then_else_}
 use Rattle.words.proofs.Cases.{test, choice}
 use Rattle.tie_rules.specs.Lanes.{lanes, noLane, laneOfByte}
+use Rattle.base_builder.specs.declared.observation.LaneSums.{LaneSums}
 use Rattle.base_builder.specs.declared.builder.ConsensusBaseBuilder.{ConsensusBaseBuilder}
-use Rattle.base_builder.specs.Observation.{movedBy, valueOf, countOf}
-use Rattle.base_builder.specs.Builder.{total, cleared, resetOf, movedLane, observed, isFull, addedBy}
-use Rattle.umi_column.specs.declared.sums.LaneSums.{LaneSums}
+use Rattle.base_builder.specs.Observation.{movedBy, sumAt, valueOf, countOf}
+use Rattle.base_builder.specs.Builder.{total, cleared, resetOf, observed, isFull, addedBy}
 use Rattle.umi_column.specs.Calls.{addedAll, namedByte}
-use Rattle.umi_column.specs.Sums.{noSums, windowOf, sumAt, summedBy, summedAll, byteBy}
+use Rattle.umi_column.specs.Sums.{noSums, windowOf, summedBy, summedAll, byteBy}
 
 -- the sums are the builder's
 abbrev Agree : ConsensusBaseBuilder → LaneSums → Type 0
@@ -49,7 +49,7 @@ module _ (correct error : Float) where
 
   -- one byte more, for a builder that is not full
   added-agree : (x : ℕ) (b : ConsensusBaseBuilder) (s : LaneSums) → isFull b ≡ false → Agree b s → Agree (addedBy correct error x b) (summedBy (windowOf correct error) x s)
-  unfolding addedBy observed movedLane summedBy
+  unfolding addedBy observed summedBy
   added-agree x b s free e =
       test (eqb (laneOfByte x) noLane)
       (λ t. rw (t, eqb-true (laneOfByte x) noLane t) e)

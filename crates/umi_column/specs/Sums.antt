@@ -7,11 +7,10 @@ use lib.ListN.{getD, replicate}
 use Rattle.float.specs.Ops.{plusZero}
 use Rattle.words.specs.Choice.{if_then_else_}
 use Rattle.tie_rules.specs.declared.tie_rule.TieRule.{TieRule}
-use Rattle.tie_rules.specs.Lanes.{lanes, lane, noLane, laneOfByte, baseOf}
+use Rattle.tie_rules.specs.Lanes.{noLane, laneOfByte, baseOf}
 use Rattle.tie_rules.specs.Ties.{uniqueMaxIndexWith}
-use Rattle.base_builder.specs.declared.observation.Sum.{Sum}
-use Rattle.base_builder.specs.Observation.{movedBy}
-use Rattle.umi_column.specs.declared.sums.LaneSums.{LaneSums}
+use Rattle.base_builder.specs.declared.observation.LaneSums.{LaneSums}
+use Rattle.base_builder.specs.Observation.{movedLanes}
 use Rattle.umi_column.specs.Dna.{isDnaBase}
 
 -- before the first byte
@@ -22,19 +21,11 @@ noSums = record { likelihoods = replicate 4 plusZero; compensations = replicate 
 unfoldable pub windowOf : Float → Float → List Float
 windowOf correct error = error ∷ error ∷ error ∷ correct ∷ error ∷ error ∷ error ∷ error ∷ []
 
--- a lane's sum and compensation
-abbrev pub sumAt : LaneSums → ℕ → Sum
-sumAt s i = record { lane = lane (s .likelihoods) i; compensation = lane (s .compensations) i }
-
--- lane i moved by the value in the window at i places after the start
-abbrev pub movedAt : List Float → ℕ → LaneSums → ℕ → Sum
-movedAt window start s i = movedBy (getD window (start + i) nan) (sumAt s i)
-
 -- the sums after a byte: one that is no base leaves them as they are
 unfoldable pub summedBy : List Float → ℕ → LaneSums → LaneSums
 summedBy window x s =
     let k = laneOfByte x in
-    if ltb k noLane then record { likelihoods = lanes (λ i. movedAt window (3 - k) s i .lane); compensations = lanes (λ i. movedAt window (3 - k) s i .compensation) }
+    if ltb k noLane then movedLanes (λ i. getD window (3 - k + i) nan) s
     else s
 
 -- after a column

@@ -8,7 +8,6 @@ pub use calls::add_column;
 pub use calls::consensus_byte;
 pub use calls::sums_byte;
 pub use dna::is_dna_base;
-pub use sums::LaneSums;
 pub use sums::add_base;
 pub use sums::no_sums;
 pub use sums::window_of;

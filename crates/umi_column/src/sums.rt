@@ -2,17 +2,11 @@
 ghost use mathlib.Core.Path.{_≡_};
 ghost use Prim.Native.Nat.{_-_, _≤_, _<_};
 ghost use lib.Dec.{ltb};
-ghost use Rattle.base_builder.specs.Observation.{movedBy};
 ghost use Rattle.tie_rules.specs.Lanes.{noLane, laneOfByte};
-ghost use Rattle.umi_column.specs.Sums.{noSums, windowOf, sumAt, summedBy};
-use base_builder::Sum;
-use base_builder::moved;
+ghost use Rattle.umi_column.specs.Sums.{noSums, windowOf, summedBy};
+use base_builder::LaneSums;
+use base_builder::moved_lanes;
 use lent_bytes::wide;
-
-pub struct LaneSums {
-    pub likelihoods: [f64; 4],
-    pub compensations: [f64; 4],
-}
 
 // Before the first byte.
 pub fn no_sums() -> LaneSums
@@ -60,19 +54,6 @@ fn window_start(base: u8) -> usize
     code - 2
 }
 
-fn moved_lane(sums: LaneSums, value: f64, i: usize) -> Sum
-    requires { ⌜ i < 4 ⌝ }
-    ensures { λ r. ⌜ r ≡ movedBy value (sumAt sums i) ⌝ }
-{
-    let likelihoods = sums.likelihoods;
-    let compensations = sums.compensations;
-    let sum = Sum {
-        lane: likelihoods[i],
-        compensation: compensations[i],
-    };
-    moved(value, sum)
-}
-
 // A byte that is no base leaves the sums as they are.
 pub fn add_base(sums: LaneSums, window: &[f64; 8], byte: u8) -> LaneSums
     ensures { λ r. ⌜ r ≡ summedBy (now (window .entry)) byte sums ⌝ }
@@ -81,17 +62,11 @@ pub fn add_base(sums: LaneSums, window: &[f64; 8], byte: u8) -> LaneSums
         return sums;
     }
     let start = window_start(byte);
-    let a = moved_lane(sums, window[start], 0);
-    let c = moved_lane(sums, window[start + 1], 1);
-    let g = moved_lane(sums, window[start + 2], 2);
-    let t = moved_lane(sums, window[start + 3], 3);
-    LaneSums {
-        likelihoods: [a.lane, c.lane, g.lane, t.lane],
-        compensations: [
-            a.compensation,
-            c.compensation,
-            g.compensation,
-            t.compensation,
-        ],
-    }
+    let values = [
+        window[start],
+        window[start + 1],
+        window[start + 2],
+        window[start + 3],
+    ];
+    moved_lanes(sums, values)
 }

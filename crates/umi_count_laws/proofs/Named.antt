@@ -22,8 +22,9 @@ use Rattle.tie_rules.specs.declared.tie_rule.TieRule.the-variants.{FgbioCompat}
 use Rattle.tie_rules.specs.Lanes.{lane}
 use Rattle.tie_rules.specs.Ties.{uniqueMaxIndexWith}
 use Rattle.tie_rules.proofs.Clear.{all-clear}
+use Rattle.base_builder.specs.Observation.{sumAt}
 use Rattle.base_builder_laws.proofs.Named.{named}
-use Rattle.umi_column.specs.Sums.{noSums, windowOf, sumAt, summedAll}
+use Rattle.umi_column.specs.Sums.{noSums, windowOf, summedAll}
 use Rattle.umi_column.specs.Counts.{countOf, minus32, apart, Leads}
 use Rattle.umi_count_laws.specs.Named.{NamedByCounts}
 use Rattle.umi_count_laws.proofs.Rounding.{near}

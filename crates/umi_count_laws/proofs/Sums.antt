@@ -13,9 +13,9 @@ use Rattle.words.proofs.Cases.{test}
 use Rattle.tie_rules.specs.Lanes.{lanes, lane, noLane, laneOfByte}
 use Rattle.tie_rules.proofs.Lanes.{lanes-at}
 use Rattle.base_builder.specs.declared.observation.Sum.{Sum}
-use Rattle.base_builder.specs.Observation.{movedBy}
-use Rattle.umi_column.specs.declared.sums.LaneSums.{LaneSums}
-use Rattle.umi_column.specs.Sums.{noSums, windowOf, sumAt, movedAt, summedBy, summedAll}
+use Rattle.base_builder.specs.Observation.{movedBy, sumAt}
+use Rattle.base_builder.specs.declared.observation.LaneSums.{LaneSums}
+use Rattle.umi_column.specs.Sums.{noSums, windowOf, summedBy, summedAll}
 use Rattle.umi_column.specs.Counts.{countOf}
 use Rattle.umi_count_laws.proofs.Places.{Fine, At, over, unit, base}
 use Rattle.umi_count_laws.proofs.KahanStep.{Stands, kept, stepped}
@@ -90,8 +90,8 @@ module _ (correct error : Float) where
 
   -- lane i of what is moved
   moved-lane : (k i : ℕ) → k < 4 → i < 4 → (s : LaneSums) → (f : Sum → Float)
-      → getD (lanes (λ j. f (movedAt (windowOf correct error) (3 - k) s j))) i nan ≡ f (movedBy (value k i) (sumAt s i))
-  moved-lane k i h l s f = lanes-at (λ j. f (movedAt (windowOf correct error) (3 - k) s j)) nan i l ∙ ap (λ (v : Float). f (movedBy v (sumAt s i))) (window-lane k i h l)
+      → getD (lanes (λ j. f (movedBy (getD (windowOf correct error) (3 - k + j) nan) (sumAt s j)))) i nan ≡ f (movedBy (value k i) (sumAt s i))
+  moved-lane k i h l s f = lanes-at (λ j. f (movedBy (getD (windowOf correct error) (3 - k + j) nan) (sumAt s j))) nan i l ∙ ap (λ (v : Float). f (movedBy v (sumAt s i))) (window-lane k i h l)
 
 -- ---- the column
 -- what stands, said of equal numbers

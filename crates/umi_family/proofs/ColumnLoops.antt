@@ -13,7 +13,7 @@ use Rattle.base_builder.specs.declared.builder.ConsensusBaseBuilder.{ConsensusB
 use Rattle.umi_column.specs.Calls.{namedByte}
 use Rattle.umi_column.proofs.SumLaws.{sums-byte}
 use Rattle.tie_rules.specs.declared.tie_rule.TieRule.{TieRule}
-use Rattle.umi_column.specs.declared.sums.LaneSums.{LaneSums}
+use Rattle.base_builder.specs.declared.observation.LaneSums.{LaneSums}
 use Rattle.umi_column.specs.Sums.{windowOf, summedBy, summedAll}
 use Rattle.umi_rows.specs.Rows.{bytesAt, columnsAt}
 use Rattle.umi_rows.proofs.RowLoops.{map-at, given-length, given-at}

@@ -18,14 +18,11 @@ returns c = rw (sym (c .before .is-base .ensures) ∙ not-true _ (c .if1 .taken)
 returns-2 : tie.Need-returns-2
 unfolding summedBy lanes
 returns-2 c =
-    let g = c .before .before in
-    let d = g .before .before in
-    let b = d .before .before in
-    let w = b .before .before in
+    let w = c .before .before .before .before .before in
     let a = w .before .before .before .args in
     let base : ltb (laneOfByte (a .byte)) noLane ≡ true = sym (w .before .before .is-base .ensures) ∙ not-false _ (w .before .if1 .left) in
     let start : w .window-start .result ≡ 3 - laneOfByte (a .byte) = w .window-start .ensures .0 (ltb-true _ _ base) in
-    rw (base, ← start, add-zero, b .moved-lane .ensures, d .moved-lane2 .ensures, g .moved-lane3 .ensures, c .moved-lane4 .ensures)
+    rw (base, ← start, add-zero) (c .moved-lanes .ensures)
 
 pub add-base-spec : {M : Type 1} → statement M
 add-base-spec =
@@ -33,8 +30,17 @@ add-base-spec =
     (tie.spec
     (λ c κs. search needs)
     returns
-    (λ c κs. search needs) (λ c. search needs) (λ c. search needs) (λ c κs. search needs)
-    (λ c. search needs) (λ c. search needs) (λ c. search needs) (λ c κs. search needs)
-    (λ c. search needs) (λ c. search needs) (λ c. search needs) (λ c κs. search needs)
-    (λ c. search needs) (λ c. search needs) (λ c. search needs) (λ c κs. search needs)
+    (λ c κs. search needs)
+    (λ c. search needs)
+    (λ c. search needs)
+    (λ c. search needs)
+    (λ c. search needs)
+    (λ c. search needs)
+    (λ c. search needs)
+    (λ c. search needs)
+    (λ c. search needs)
+    (λ c. search needs)
+    (λ c. search needs)
+    (λ c. search needs)
+    (λ c κs. search needs)
     returns-2)
