@@ -10,7 +10,7 @@ use lib.Ieee.Bits.{is-true}
 use lib.ListN.{length, length-append}
 use Rattle.words.proofs.Cases.{test, both}
 use Rattle.refusals.specs.declared.Refusal.{Refusal}
-use Rattle.refusals.specs.declared.Refusal.the-variants.{FileTooLong, CutOff, BadSettings, AbsentQuality, NoStrings, LengthsDiffer, NotAscii, UnlikeFirst, Mixed, BufferTooShort}
+use Rattle.refusals.specs.declared.Refusal.the-variants.{FileTooLong, CutOff, BadSettings, AbsentQuality, NoStrings, LengthsDiffer, NotAscii, UnlikeFirst, Mixed, BufferTooShort, FullBuilder}
 use Rattle.refusals.specs.Refusals.{numberOf}
 use Rattle.refusals.specs.Result.{accepted}
 use Rattle.lent_text.proofs.Decimal.{decimal-length}
@@ -98,6 +98,7 @@ number-small NotAscii = omega arith
 number-small UnlikeFirst = omega arith
 number-small Mixed = omega arith
 number-small BufferTooShort = omega arith
+number-small FullBuilder = omega arith
 
 -- of a refused file's line
 pub refusal-length : (r : Refusal) → length (refusalLine r) ≤ 11
