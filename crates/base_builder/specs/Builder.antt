@@ -9,6 +9,8 @@ use Rattle.float.specs.Ops.{plusZero}
 use Rattle.words.specs.Choice.{if_then_else_}
 use Rattle.phred.specs.Phred.{phredToLnErrorProb}
 use Rattle.phred.specs.declared.LogProbability.{LogProbability}
+use Rattle.refusals.specs.declared.Refusal.the-variants.{FullBuilder}
+use Rattle.refusals.specs.Refusals.{numberOf}
 use Rattle.tie_rules.specs.declared.tie_rule.TieRule.{TieRule}
 use Rattle.tie_rules.specs.declared.tie_rule.TieRule.the-variants.{FgbioCompat}
 use Rattle.base_builder.specs.declared.observation.Sum.{Sum}
@@ -107,14 +109,14 @@ answerOf base b =
     else Accepted
 
 -- the number (SCOPE 7) of an answer, 0 for one that is no refusal
-abbrev pub numberOf : Answer → ℕ
-numberOf Accepted = 0
-numberOf Refused = 11
+abbrev pub addNumber : Answer → ℕ
+addNumber Accepted = 0
+addNumber Refused = numberOf FullBuilder
 
--- the number of the refusal that a byte meets, 0 for none: 11 for a base at a full builder
+-- the number of the refusal that a byte meets, 0 for none: a base is refused at a full builder
 unfoldable pub refusalOf : ℕ → ConsensusBaseBuilder → ℕ
 refusalOf base b =
-    if not (eqb (laneOfByte base) noLane) && isFull b then 11
+    if not (eqb (laneOfByte base) noLane) && isFull b then numberOf FullBuilder
     else 0
 
 -- the number of bases that contributed, in 32 bits

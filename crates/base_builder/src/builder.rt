@@ -3,7 +3,7 @@
 ghost use mathlib.Core.Path.{_≡_};
 ghost use Prim.Native.Nat.{_<_};
 ghost use Rattle.tie_rules.specs.Lanes.{lane};
-ghost use Rattle.base_builder.specs.Builder.{total as totalOf, cleared as clearedOf, newAt, withTieRule, resetOf, observedBy, entryOf, addedBy, added, answerOf, numberOf, refusalOf, contributionsOf, observationsForBase};
+ghost use Rattle.base_builder.specs.Builder.{total as totalOf, cleared as clearedOf, newAt, withTieRule, resetOf, observedBy, entryOf, addedBy, added, answerOf, addNumber, refusalOf, contributionsOf, observationsForBase};
 use crate::observation::LaneSums;
 use crate::observation::count;
 use crate::observation::moved_lanes;
@@ -88,7 +88,7 @@ impl ConsensusBaseBuilder {
     pub fn add(self, base: u8, qual: PhredScore, tables: AdjustedProbabilityTables) -> Addition
         ensures builder { λ r. ⌜ r .builder ≡ added (tables .correct) (tables .«error_per_alt») base (qual .0) self ⌝ }
         ensures answer { λ r. ⌜ r .answer ≡ answerOf base self ⌝ }
-        ensures number { λ r. ⌜ numberOf (r .answer) ≡ refusalOf base self ⌝ }
+        ensures number { λ r. ⌜ addNumber (r .answer) ≡ refusalOf base self ⌝ }
     {
         let correct = tables.correct;
         let error_per_alt = tables.error_per_alt;
@@ -158,7 +158,7 @@ pub fn add_with(
 ) -> Addition
     ensures builder { λ r. ⌜ r .builder ≡ added (now (correct .entry)) (now («error_per_alt» .entry)) base (qual .0) builder ⌝ }
     ensures answer { λ r. ⌜ r .answer ≡ answerOf base builder ⌝ }
-    ensures number { λ r. ⌜ numberOf (r .answer) ≡ refusalOf base builder ⌝ }
+    ensures number { λ r. ⌜ addNumber (r .answer) ≡ refusalOf base builder ⌝ }
 {
     let q = entry(qual);
     add_entry(builder, base, correct[q], error_per_alt[q])
@@ -182,7 +182,7 @@ pub fn add_entry(
 ) -> Addition
     ensures builder { λ r. ⌜ r .builder ≡ addedBy correct «error_per_alt» base builder ⌝ }
     ensures answer { λ r. ⌜ r .answer ≡ answerOf base builder ⌝ }
-    ensures number { λ r. ⌜ numberOf (r .answer) ≡ refusalOf base builder ⌝ }
+    ensures number { λ r. ⌜ addNumber (r .answer) ≡ refusalOf base builder ⌝ }
 {
     let k = lane_of(base);
     if k == NO_LANE {

@@ -29,7 +29,7 @@ use Rattle.base_builder.specs.Builder.{total, contributionsOf}
 use Rattle.base_builder.specs.Calls.{unanimousOf, multibaseOf, callFullOf, longWay, callOf}
 use Rattle.base_builder.specs.History.{Event, after}
 use Rattle.base_builder_laws.specs.Counted.{Observation, countedSince, valuesOf, kahan}
-use Rattle.base_builder_laws.specs.Demand3.{Agrees}
+use Rattle.base_builder_laws.specs.Agrees.{Agrees}
 use Rattle.base_builder.specs.History.{ruled}
 use Rattle.base_builder_laws.specs.Laws.{Laws}
 use Rattle.base_builder_laws.proofs.Run.{Holds, after-holds}

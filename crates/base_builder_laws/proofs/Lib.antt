@@ -4,11 +4,9 @@ pub mod Scan
 pub mod Named
 pub mod OwnTables
 pub mod Replies
-pub mod Demand1
+pub mod GoodCalls
 pub mod SameBase
-pub mod Demand3
 pub mod Laws
 pub mod AfterReset
-pub mod Starred
 pub mod Corners
-pub mod Refusals
+pub mod AddConditions

@@ -18,7 +18,7 @@ use Rattle.gap_tables.specs.declared.gaps.UnanimousGapTables.{UnanimousGapTable
 use Rattle.gap_tables.specs.Thresholds.{gap0, thresholdWith}
 use Rattle.gap_tables.specs.Gaps.{unanimousQualityFromGap, thresholdAt, capOf, gapTables}
 use Rattle.words.proofs.Listed.{level-at}
-use Rattle.gap_tables.proofs.Demand3.{thresholds-of-a-rate}
+use Rattle.gap_tables.proofs.OfARate.{thresholds-of-a-rate}
 use Rattle.tie_rules.specs.Lanes.{baseOf}
 use Rattle.lane_calls.specs.declared.call.Reply.{Reply}
 use Rattle.lane_calls.specs.declared.call.Reply.the-variants.{Replied, Deferred}

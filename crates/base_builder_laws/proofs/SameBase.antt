@@ -24,7 +24,7 @@ use Rattle.unanimous_shortcut.specs.Unanimous.{firstSeen, soleLane, leads}
 use Rattle.base_builder.specs.declared.builder.ConsensusBaseBuilder.{ConsensusBaseBuilder}
 use Rattle.base_builder.specs.Calls.{unanimousOf, multibaseOf, callFullOf}
 use Rattle.base_builder_laws.specs.Counted.{Observation}
-use Rattle.base_builder_laws.specs.Demand3.{Agrees}
+use Rattle.base_builder_laws.specs.Agrees.{Agrees}
 use Rattle.base_builder.specs.History.{ruled}
 use Rattle.base_builder_laws.proofs.Run.{Holds}
 use Rattle.base_builder_laws.proofs.Lanes.{alike}

@@ -1,6 +1,6 @@
 pub mod Counted
-pub mod Demand1
-pub mod Demand3
+pub mod GoodCalls
+pub mod Agrees
+pub mod AddConditions
 pub mod Laws
 pub mod Corners
-pub mod Starred

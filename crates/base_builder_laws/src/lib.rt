@@ -1,2 +1,2 @@
-// No code: what holds of a builder after any list of its calls, and of any call. Demand 1 for a call and
-// demand 3 are stated in specs/ and proved in proofs/.
+// No code: what holds of a builder after any list of its calls, and of any call, stated in specs/ and
+// proved in proofs/. The crate demands gathers what demands 1 and 3 need of it.

@@ -10,15 +10,15 @@ use lib.Ieee.Bits.{is-true}
 use lib.ListN.{length, length-append}
 use Rattle.words.proofs.Cases.{test, both}
 use Rattle.refusals.specs.declared.Refusal.{Refusal}
-use Rattle.refusals.specs.declared.Refusal.the-variants.{FileTooLong, CutOff, BadSettings, AbsentQuality, NoStrings, LengthsDiffer, NotAscii, UnlikeFirst, Mixed, BufferTooShort}
+use Rattle.refusals.specs.declared.Refusal.the-variants.{FileTooLong, CutOff, BadSettings, AbsentQuality, NoStrings, LengthsDiffer, NotAscii, UnlikeFirst, Mixed, BufferTooShort, FullBuilder}
 use Rattle.refusals.specs.Refusals.{numberOf}
 use Rattle.refusals.specs.Result.{accepted}
 use Rattle.lent_text.proofs.Decimal.{decimal-length}
 use Rattle.tie_rules.specs.Lanes.{counted}
 use Rattle.lane_calls.specs.declared.call.Call.{Call}
 use Rattle.base_builder.specs.Builder.{total}
-use Rattle.base_builder_laws.specs.Demand1.{isBase, isCall}
-use Rattle.base_builder_laws.proofs.Demand1.{demand1}
+use Rattle.base_builder_laws.specs.GoodCalls.{isBase, isCall}
+use Rattle.base_builder_laws.proofs.GoodCalls.{good-calls}
 use Rattle.base_builder.specs.History.{after}
 use Rattle.base_builder_laws.proofs.Laws.{laws}
 use Rattle.simple_umi.specs.Consensus.{Found}
@@ -70,7 +70,7 @@ module _ (g : Settings) where
       let post = g .«error_rate_post_umi» .0 in
       let es = map eventOf c in
       let b = after pre post (g .«tie_rule») es in
-      line-length i (columnCall g c) (length c) (builderOf g c .observations) h (call-quality (columnCall g c) (is-true _ (demand1 pre b .call))) k
+      line-length i (columnCall g c) (length c) (builderOf g c .observations) h (call-quality (columnCall g c) (is-true _ (good-calls pre b .call))) k
       (laws pre post (g .«tie_rule») es .most)
 
   -- of all of them, which take at most 65,536 bytes
@@ -98,6 +98,7 @@ number-small NotAscii = omega arith
 number-small UnlikeFirst = omega arith
 number-small Mixed = omega arith
 number-small BufferTooShort = omega arith
+number-small FullBuilder = omega arith
 
 -- of a refused file's line
 pub refusal-length : (r : Refusal) → length (refusalLine r) ≤ 11

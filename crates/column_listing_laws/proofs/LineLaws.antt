@@ -17,8 +17,8 @@ use Rattle.lent_text.specs.Text.{letters, newline, space, decimal, isDigit, lin
 use Rattle.lent_text.proofs.Decimal.{decimal-digits}
 use Rattle.tie_rules.specs.Lanes.{counted}
 use Rattle.lane_calls.specs.declared.call.Call.{Call}
-use Rattle.base_builder_laws.specs.Demand1.{isBase, isCall}
-use Rattle.base_builder_laws.proofs.Demand1.{demand1}
+use Rattle.base_builder_laws.specs.GoodCalls.{isBase, isCall}
+use Rattle.base_builder_laws.proofs.GoodCalls.{good-calls}
 use Rattle.simple_umi.specs.Consensus.{Found}
 use Rattle.column_file.specs.declared.settings.Settings.{Settings}
 use Rattle.column_file.specs.Format.{Observation}
@@ -87,7 +87,7 @@ line-of i call depth counts h =
 column-line : (i : ℕ) (g : Settings) (c : List Observation) → isLine (columnLine i g c) ≡ true
 unfolding columnLine columnCall
 column-line i g c =
-    line-of i (columnCall g c) (length c) (builderOf g c .observations) (is-true _ (demand1 (g .«error_rate_pre_umi» .0) (builderOf g c) .call))
+    line-of i (columnCall g c) (length c) (builderOf g c .observations) (is-true _ (good-calls (g .«error_rate_pre_umi» .0) (builderOf g c) .call))
 
 -- as many as there are columns, each of them one
 lines-count : (i : ℕ) (g : Settings) (cs : List (List Observation)) → length (columnLines i g cs) ≡ length cs

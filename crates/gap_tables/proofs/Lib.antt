@@ -1,3 +1,3 @@
 pub mod Middle
 pub mod Promised
-pub mod Demand3
+pub mod OfARate

@@ -1,7 +1,7 @@
 // The builder lent by &mut: three thin functions over the by-value ones of base_builder. Above each
 // stands one that takes and gives the builder by value, so that its callers need no proof by hand.
 ghost use mathlib.Core.Path.{_≡_};
-ghost use Rattle.base_builder.specs.Builder.{withTieRule, resetOf, added, answerOf, numberOf, refusalOf};
+ghost use Rattle.base_builder.specs.Builder.{withTieRule, resetOf, added, answerOf, addNumber, refusalOf};
 use base_builder::Addition;
 use base_builder::Answer;
 use base_builder::ConsensusBaseBuilder;
@@ -18,7 +18,7 @@ pub fn add(
 ) -> Answer
     ensures builder { λ _. ⌜ now (builder .exit) ≡ added (tables .correct) (tables .«error_per_alt») base (qual .0) (now (builder .entry)) ⌝ }
     ensures answer { λ r. ⌜ r ≡ answerOf base (now (builder .entry)) ⌝ }
-    ensures number { λ r. ⌜ numberOf r ≡ refusalOf base (now (builder .entry)) ⌝ }
+    ensures number { λ r. ⌜ addNumber r ≡ refusalOf base (now (builder .entry)) ⌝ }
 {
     let addition = (*builder).add(base, qual, tables);
     *builder = addition.builder;
@@ -48,7 +48,7 @@ pub fn add_in_place(
 ) -> Addition
     ensures builder { λ r. ⌜ r .builder ≡ added (tables .correct) (tables .«error_per_alt») base (qual .0) builder ⌝ }
     ensures answer { λ r. ⌜ r .answer ≡ answerOf base builder ⌝ }
-    ensures number { λ r. ⌜ numberOf (r .answer) ≡ refusalOf base builder ⌝ }
+    ensures number { λ r. ⌜ addNumber (r .answer) ≡ refusalOf base builder ⌝ }
 {
     let mut lent = builder;
     let answer = add(&mut lent, base, qual, tables);

@@ -1,7 +1,7 @@
 -- An answer that says what was refused has its number, and the first of two tests that refuses gives its own. Assumes nothing.
 use mathlib.Core.Path.{_≡_, refl, _∙_, ap}
 use Prim.Native.Nat.{ℕ}
-use Rattle.refusals.specs.declared.Refusal.the-variants.{FileTooLong, CutOff, BadSettings, AbsentQuality, NoStrings, LengthsDiffer, NotAscii, UnlikeFirst, Mixed, BufferTooShort}
+use Rattle.refusals.specs.declared.Refusal.the-variants.{FileTooLong, CutOff, BadSettings, AbsentQuality, NoStrings, LengthsDiffer, NotAscii, UnlikeFirst, Mixed, BufferTooShort, FullBuilder}
 use Rattle.refusals.specs.declared.Verdict.{Verdict}
 use Rattle.refusals.specs.declared.Verdict.the-variants.{Sound, Refused}
 use Rattle.refusals.specs.Refusals.{numberIn, verdictNumber, firstNumber}
@@ -29,6 +29,7 @@ first-number (Refused NotAscii) w = refl
 first-number (Refused UnlikeFirst) w = refl
 first-number (Refused Mixed) w = refl
 first-number (Refused BufferTooShort) w = refl
+first-number (Refused FullBuilder) w = refl
 
 pub or-else-said : (v w r : Verdict) → r ≡ orElse v w → (r ≡ orElse v w) × (verdictNumber r ≡ firstNumber (verdictNumber v) (verdictNumber w))
 or-else-said v w r e = said-number verdictNumber (orElse v w) (firstNumber (verdictNumber v) (verdictNumber w)) (first-number v w) r e

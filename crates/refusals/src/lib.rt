@@ -1,29 +1,32 @@
-// The numbered conditions under which a column file, a part of one or a string set is refused.
+// All numbered conditions (SCOPE 7) under which something is refused: a column file or a part of one, a string set, a base.
 ghost use mathlib.Core.Path.{_≡_};
 ghost use Rattle.refusals.specs.Refusals.{numberOf, verdictNumber, firstNumber};
 ghost use Rattle.refusals.specs.Result.{orElse};
 
+// In the order of their numbers, each with the definition that says where it holds.
 pub enum Refusal {
-    // Over 65,536 bytes.
+    // 1, over 65,536 bytes: `lone` in string_set/specs/Readers.
     FileTooLong,
-    // A count is missing, cut off or reaches past the end, or bytes remain.
+    // 2, a count is missing, cut off or reaches past the end, or bytes remain: `alone` in string_set/specs/Readers.
     CutOff,
-    // The settings are not three, or the tie rule is neither 0 nor 1.
+    // 3, the settings are not three, or the tie rule is neither 0 nor 1: `settingsOf` in column_file/specs/Reading.
     BadSettings,
-    // A quality of 255.
+    // 4, a quality of 255: `observationVerdict` in column_file/specs/Reading.
     AbsentQuality,
-    // There are no strings.
+    // 5, there are no strings: `callVerdict` in simple_umi/specs/Verdicts.
     NoStrings,
-    // The strings' lengths differ.
+    // 6, the strings' lengths differ: `umisVerdict` in simple_umi/specs/Verdicts.
     LengthsDiffer,
-    // A byte of 128 or more.
+    // 7, a byte of 128 or more: `familyVerdict` in simple_umi/specs/Verdicts.
     NotAscii,
-    // A non-DNA byte unlike the first string's.
+    // 8, a non-DNA byte unlike the first string's: `verdictOf` in umi_column/specs/Verdicts.
     UnlikeFirst,
-    // DNA and non-DNA in one column.
+    // 9, DNA and non-DNA in one column: `verdictOf` in umi_column/specs/Verdicts.
     Mixed,
-    // The answer buffer is shorter than the answer.
+    // 10, the answer buffer is shorter than the answer: `roomFor` in simple_umi/specs/Answers and column_listing/specs/Answers.
     BufferTooShort,
+    // 11, a base meets a builder that has counted 4,294,967,295 or more: `answerOf` in base_builder/specs/Builder.
+    FullBuilder,
 }
 
 // What a test says.
@@ -58,5 +61,6 @@ pub fn number(refusal: Refusal) -> u8
         Refusal::UnlikeFirst => 8,
         Refusal::Mixed => 9,
         Refusal::BufferTooShort => 10,
+        Refusal::FullBuilder => 11,
     }
 }

@@ -12,7 +12,7 @@ use Rattle.refusals.specs.declared.Verdict.the-variants.{Sound, Refused}
 use Rattle.refusals.specs.Result.{refused, accepted}
 use Rattle.rate_tables.specs.Adjusted.{adjustedTables}
 use Rattle.base_builder.specs.declared.builder.ConsensusBaseBuilder.{ConsensusBaseBuilder}
-use Rattle.base_builder_laws.specs.Demand1.{isBase}
+use Rattle.base_builder_laws.specs.GoodCalls.{isBase}
 use Rattle.base_builder.specs.History.{Event, run}
 use Rattle.umi_column.specs.Dna.{isDnaBase}
 use Rattle.umi_column.specs.Verdicts.{verdictOf}

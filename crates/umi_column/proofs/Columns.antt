@@ -15,9 +15,9 @@ use Rattle.base_builder.specs.declared.builder.ConsensusBaseBuilder.{ConsensusB
 use Rattle.base_builder.specs.Builder.{resetOf, added}
 use Rattle.base_builder.specs.Calls.{callOf}
 use Rattle.base_builder.specs.History.{add, step, run}
-use Rattle.base_builder_laws.specs.Demand1.{isBase, isCall}
+use Rattle.base_builder_laws.specs.GoodCalls.{isBase, isCall}
 use Rattle.base_builder_laws.proofs.AfterReset.{after-reset}
-use Rattle.base_builder_laws.proofs.Demand1.{demand1}
+use Rattle.base_builder_laws.proofs.GoodCalls.{good-calls}
 use Rattle.umi_column.specs.Dna.{isDnaBase}
 use Rattle.umi_column.specs.Calls.{columnBuilder, columnByte, addedAll, namedByte}
 
@@ -64,7 +64,7 @@ call-kind c h =
 pub column-byte-kind : (pre : ℕ) (column : List ℕ) (after : ConsensusBaseBuilder) → isDnaBase (byteAt column 0) ≡ true
     → (isBase (columnByte pre column after) || eqb (columnByte pre column after) 78) ≡ true
 unfolding columnByte
-column-byte-kind pre column after d = rw d (call-kind (callOf (gapTables pre) after) (demand1 pre after .call))
+column-byte-kind pre column after d = rw d (call-kind (callOf (gapTables pre) after) (good-calls pre after .call))
 
 -- where it is not: that byte
 pub column-byte-other : (pre : ℕ) (column : List ℕ) (after : ConsensusBaseBuilder) → isDnaBase (byteAt column 0) ≡ false

@@ -1,4 +1,4 @@
--- What demand 1 says of a call.
+-- What a call can be.
 use Prim.Native.Nat.{ℕ}
 use mathlib.Core.Bool.{Bool, true, _&&_, _||_}
 use lib.Dec.{T, leb, eqb}
@@ -25,7 +25,7 @@ repliesWell (Replied c) = isCall c
 repliesWell Deferred = true
 
 -- Any builder whatever, with the tables of any pre-UMI rate, its own or another: the call, the long calculation and each shortcut's reply.
-pub record Demand1 (pre : ℕ) (b : ConsensusBaseBuilder) : Type 0 where
+pub record GoodCalls (pre : ℕ) (b : ConsensusBaseBuilder) : Type 0 where
   pub call : T (isCall (callOf (gapTables pre) b))
   pub full : T (isCall (callFullOf b))
   pub unanimous : T (repliesWell (unanimousOf (gapTables pre) b))

@@ -1,4 +1,4 @@
--- Demand 3, second sentence, for every pre-UMI rate: the gap thresholds never fall as the level rises; every finite one is a gap at which the formula
+-- For every pre-UMI rate: the gap thresholds never fall as the level rises; every finite one is a gap at which the formula
 -- reaches its level; one is 0 exactly when gap 0 reaches its level, and infinite exactly when neither gap 0 nor gap 256 does. Assumes nothing.
 use Prim.Native.Nat.{ℕ}
 use Rattle.phred.specs.Phred.{phredToLnErrorProb}

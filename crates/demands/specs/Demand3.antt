@@ -1,4 +1,4 @@
--- What demand 3 says.
+-- Demand 3, whole (SCOPE 1.3): a shortcut never changes a base.
 use mathlib.Core.Path.{_≡_}
 use mathlib.Core.List.{List}
 use Prim.Native.Nat.{ℕ, _≤_}
@@ -8,16 +8,9 @@ use Rattle.phred.specs.Phred.{phredToLnErrorProb}
 use Rattle.gap_tables.specs.Thresholds.{Thresholds}
 use Rattle.gap_tables.specs.Gaps.{unanimousQualityFromGap, thresholdAt, gapTables}
 use Rattle.tie_rules.specs.declared.tie_rule.TieRule.{TieRule}
-use Rattle.lane_calls.specs.declared.call.Call.{Call}
-use Rattle.lane_calls.specs.declared.call.Reply.{Reply}
-use Rattle.lane_calls.specs.declared.call.Reply.the-variants.{Replied, Deferred}
 use Rattle.base_builder.specs.Calls.{unanimousOf, multibaseOf, callFullOf}
 use Rattle.base_builder.specs.History.{Event, after}
-
--- where a shortcut replies, the long calculation names the same base
-abbrev pub Agrees : Reply → Call → Type 0
-Agrees (Replied short) full = short .base ≡ full .base
-Agrees Deferred full = Unit {0}
+use Rattle.base_builder_laws.specs.Agrees.{Agrees}
 
 pub record Demand3 : Type 0 where
   -- For every list of observations, resets and rule changes, ignored and refused observations included, from a new builder at any two rates, under either

@@ -12,7 +12,7 @@ use Rattle.tie_rules.specs.Ties.{fgbioTie, nearPatterns, ulpTie, tiesWith, unti
 use Rattle.base_builder.specs.Builder.{newAt, cleared, total, contributionsOf, addedBy, added}
 use Rattle.base_builder.specs.Calls.{callOf}
 use Rattle.base_builder.specs.History.{step, run}
-use Rattle.base_builder_laws.specs.Starred.{allStarred}
+use Rattle.demands.specs.Starred.{allStarred}
 
 pub starred : (pre : ℕ) (adjusted : AdjustedProbabilityTables) (gaps : UnanimousGapTables) → T (allStarred pre adjusted gaps)
 unfolding callOf contributionsOf total newAt cleared baseOf run step added addedBy laneOfByte lnProbToPhred phredToLnErrorProb lt le eq isNan div mul add' sub neg ofBits ofInt toBits absOf floorOf uniqueMaxIndexWith fgbioUniqueMaxIndex notMinusInfinity uniqueMaxIndex scan fgbioStep ulpStep fgbioTie untied tiesWith ulpTie nearPatterns allBelow

@@ -1,4 +1,4 @@
--- Demand 1 for a call: with the tables of any pre-UMI rate every builder whatever is called A, C, G or T with a quality of 2 to 93, or N with exactly 2; so
+-- What a call can be: with the tables of any pre-UMI rate every builder whatever is called A, C, G or T with a quality of 2 to 93, or N with exactly 2; so
 -- do the long calculation and each shortcut that replies. Assumes nothing.
 use mathlib.Core.Path.{_≡_, refl}
 use mathlib.Core.Bool.{true}
@@ -18,7 +18,7 @@ use Rattle.unanimous_shortcut.specs.Unanimous.{soleLane}
 use Rattle.base_builder.specs.declared.builder.ConsensusBaseBuilder.{ConsensusBaseBuilder}
 use Rattle.base_builder.specs.Builder.{contributionsOf}
 use Rattle.base_builder.specs.Calls.{unanimousOf, multibaseOf, callFullOf, longWay, callOf}
-use Rattle.base_builder_laws.specs.Demand1.{isBase, isCall, repliesWell, Demand1}
+use Rattle.base_builder_laws.specs.GoodCalls.{isBase, isCall, repliesWell, GoodCalls}
 use Rattle.base_builder_laws.proofs.OwnTables.{Names}
 use Rattle.base_builder_laws.proofs.Replies.{unanimous-by, multibase-by, full-by}
 
@@ -58,9 +58,9 @@ pub or-well : (r : Reply) (c : Call) → T (repliesWell r) → T (isCall c) → 
 or-well (Replied short) c h k = h
 or-well Deferred c h k = k
 
-pub demand1 : (pre : ℕ) (b : ConsensusBaseBuilder) → Demand1 pre b
+pub good-calls : (pre : ℕ) (b : ConsensusBaseBuilder) → GoodCalls pre b
 unfolding callOf longWay
-demand1 pre b = record {
+good-calls pre b = record {
   call =
       choice (λ (c : Call). T (isCall c)) (eqb (contributionsOf b) 0) noCall _ (λ _. no-call)
       (λ _. or-well (unanimousOf (gapTables pre) b) _ (unanimous-well pre b) (or-well (multibaseOf b) (callFullOf b) (multibase-well b) (full-well b)));
