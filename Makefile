@@ -32,7 +32,7 @@ BENCH ?=
 unexport EXPORTS_FOLDER
 
 .DEFAULT_GOAL := help
-.PHONY: help run try test check library differential soak vectors bench fmt clean need-rt
+.PHONY: help run try test check library install differential soak vectors bench fmt clean need-rt
 
 help: ## list the targets
 	@sed -n 's/^\([a-z]*\):[^#]*## \(.*\)/\1\t\2/p' $(MAKEFILE_LIST) | expand -t 14
@@ -52,8 +52,15 @@ try: need-rt ## list a file in seconds, with nothing proved (SAMPLE=FILE)
 check: need-rt ## prove what changed, and run the programs
 	rt check
 
-library: need-rt ## prove the crates and write target/staticlib/libexports.a, for C and Rust
+library: need-rt ## prove the crates and write target/dist: libconsensus for C, Rust and Python, with its header
 	rt staticlib exports
+	@packaging/make-dist
+
+# Where `make install` puts the library.
+PREFIX ?= /usr/local
+
+install: library ## the library below a folder (PREFIX=/usr/local)
+	@packaging/make-dist $(PREFIX)
 
 differential: library ## compare with the Rust, bit for bit, where the Rust can be had (COMPARISON=required)
 	@differential/everything --arguments $(ARGUMENTS) --histories $(HISTORIES) \
