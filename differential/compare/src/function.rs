@@ -110,7 +110,9 @@ impl Function {
     /// work out an answer by itself instead of asking the C library.
     pub fn answers(&'static self, arguments: Arguments) -> Answers {
         let hidden = black_box(arguments);
-        self.beside(arguments, panics::answer(|| (self.rust)(hidden.values())).ok())
+        let rust = panics::answer(|| (self.rust)(hidden.values()));
+        assert!(rust.is_ok() || rust == Err(panics::OF_NUMBERS), "these refuse no set");
+        self.beside(arguments, rust.ok())
     }
 
     /// What ours answers, beside an answer of the Rust's, None where that panics.

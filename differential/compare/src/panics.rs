@@ -5,12 +5,12 @@ use std::panic::{AssertUnwindSafe, catch_unwind, resume_unwind, set_hook, take_h
 
 use crate::umis::condition::{LENGTHS_DIFFER, MIXED, NO_STRINGS, UNLIKE_FIRST};
 
-/// No condition of a set, but what `ln_a_minus_b` refuses.
-const NUMBERS: u64 = 0;
+/// The number of no condition: what `ln_a_minus_b` refuses.
+pub const OF_NUMBERS: u64 = 0;
 
 /// Words that only the message of this condition has.
 const WORDS: [(&str, u64); 5] = [
-    ("less than zero", NUMBERS),
+    ("less than zero", OF_NUMBERS),
     ("empty set", NO_STRINGS),
     ("same length", LENGTHS_DIFFER),
     ("at position", UNLIKE_FIRST),
