@@ -1,6 +1,6 @@
 //! How far apart two answers are, and a count over many of them.
 
-use crate::arguments::Arguments;
+use crate::arguments::{Arguments, Chosen};
 use crate::function::{Answers, Function};
 use crate::random::Random;
 use crate::ranges::{Demand, Range, ranges};
@@ -126,6 +126,15 @@ pub fn drawn(function: &'static Function, arguments: u64, random: &mut Random) -
         Line { function, arguments: range.name, demand: range.demand, tally }
     };
     ranges(function).into_iter().map(line).collect()
+}
+
+/// A line of each list of chosen arguments of a function.
+pub fn at_chosen(function: &'static Function, chosen: Vec<Chosen>) -> Vec<Line> {
+    let line = |Chosen { name, allowed, arguments }| {
+        let tally = Tally::of(function, arguments);
+        Line { function, arguments: name, demand: Demand::Ulps(allowed), tally }
+    };
+    chosen.into_iter().map(line).collect()
 }
 
 /// Prints how many lines are as demanded, and says whether all are.

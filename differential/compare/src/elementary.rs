@@ -3,7 +3,7 @@
 use std::io;
 
 use crate::arguments::{Arguments, chosen_of_elementary};
-use crate::difference::{Line, Tally, all_hold, drawn};
+use crate::difference::{Line, Tally, all_hold, at_chosen, drawn};
 use crate::environment;
 use crate::function::{Answers, ELEMENTARY};
 use crate::random::Random;
@@ -18,15 +18,7 @@ pub fn run(arguments: u64, seed: u64) -> io::Result<bool> {
     let mut lines = Vec::new();
     for (function, recorded) in ELEMENTARY.iter().zip(recorded_calls()?) {
         lines.extend(drawn(function, arguments, &mut random));
-        for it in chosen_of_elementary() {
-            let (arguments, demand) = (it.name, Demand::Ulps(it.allowed));
-            lines.push(Line {
-                function,
-                arguments,
-                demand,
-                tally: Tally::of(function, it.arguments),
-            });
-        }
+        lines.extend(at_chosen(function, chosen_of_elementary()));
         let (arguments, demand) = ("calls of all tables", Demand::Ulps(0));
         lines.push(Line { function, arguments, demand, tally: recorded });
     }

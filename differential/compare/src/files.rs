@@ -25,8 +25,8 @@ pub mod vectors;
 use self::drawn::KINDS;
 use self::row::Row;
 use crate::environment;
+use crate::panics;
 use crate::random::Random;
-use crate::umis::panics;
 
 /// Compares so many drawn files besides the fixed ones, prints tables, and says whether nothing
 /// differs and every reply occurred.

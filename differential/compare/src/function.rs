@@ -8,8 +8,8 @@ use oracle::phred::accessors;
 use crate::arguments::Arguments;
 use crate::difference::{stored_bits, ulps};
 use crate::exports;
+use crate::panics;
 use crate::phred::formula::{C_LIBRARY, Elementary, OURS, ln_error};
-use crate::phred::refusal;
 
 /// What a function is asked of.
 #[derive(Clone, Copy, PartialEq, Eq)]
@@ -109,8 +109,10 @@ impl Function {
     /// What both sides answer. The Rust's arguments are hidden from the compiler, which could else
     /// work out an answer by itself instead of asking the C library.
     pub fn answers(&'static self, arguments: Arguments) -> Answers {
-        let rust = refusal::answer(self.rust, black_box(arguments).values());
-        self.beside(arguments, rust)
+        let hidden = black_box(arguments);
+        let rust = panics::answer(|| (self.rust)(hidden.values()));
+        assert!(rust.is_ok() || rust == Err(panics::OF_NUMBERS), "these refuse no set");
+        self.beside(arguments, rust.ok())
     }
 
     /// What ours answers, beside an answer of the Rust's, None where that panics.

@@ -21,6 +21,7 @@ mod histories;
 mod history;
 mod lists;
 mod outcome;
+mod panics;
 mod phred;
 mod random;
 mod ranges;

@@ -1,12 +1,12 @@
 //! The functions of phred.rs, ours beside the Rust's, bit for bit.
 
 pub mod formula;
-pub mod refusal;
 
 use crate::arguments::chosen;
-use crate::difference::{Line, Tally, all_hold, drawn};
+use crate::difference::{Line, Tally, all_hold, at_chosen, drawn};
 use crate::environment;
 use crate::function::{Answers, PHRED};
+use crate::panics;
 use crate::random::Random;
 use crate::ranges::Demand;
 use crate::table::Table;
@@ -14,20 +14,12 @@ use crate::table::Table;
 /// Compares at so many arguments a range, prints a table, and says whether all is as demanded.
 pub fn run(arguments: u64, seed: u64) -> bool {
     println!("phred: ours beside the Rust's, seed {seed}, {}", environment::c_library());
-    refusal::silence();
+    panics::silence();
     let mut random = Random::new(seed);
     let mut lines = Vec::new();
     for function in &PHRED {
         lines.extend(drawn(function, arguments, &mut random));
-        for it in chosen(function) {
-            let (arguments, demand) = (it.name, Demand::Ulps(it.allowed));
-            lines.push(Line {
-                function,
-                arguments,
-                demand,
-                tally: Tally::of(function, it.arguments),
-            });
-        }
+        lines.extend(at_chosen(function, chosen(function)));
     }
     print!("{}", table(&lines).aligned());
     println!("{}", summary(&lines));

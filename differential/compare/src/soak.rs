@@ -1,16 +1,18 @@
 //! The comparison for as long as one likes: rounds of what is drawn, each by its own seed.
 
-mod round;
 mod totals;
 
-use std::io;
+use std::io::{self, Write};
 use std::time::{Duration, Instant};
 
-use self::round::{print_end, print_head, print_start};
 use self::totals::Totals;
 use crate::environment;
+use crate::panics;
 use crate::random::Random;
-use crate::umis::panics;
+
+/// The heads of a round's line, each above the end of its number; there is room for days.
+const HEAD: &str = "round                  seed  minutes      columns      reports   builders     \
+                    reports        sets        calls       files  unexplained     known";
 
 /// Compares until so many minutes are over, but one round at least. Prints a line for each round
 /// and what differs in it, then the totals, and says whether no difference stands unexplained.
@@ -20,11 +22,15 @@ pub fn run(minutes: u64, mut seed: u64) -> io::Result<bool> {
     panics::silence();
     let (start, end) = (Instant::now(), Duration::from_secs(minutes.saturating_mul(60)));
     let mut totals = Totals::default();
-    print_head();
+    println!("{HEAD}");
     loop {
-        print_start(totals.rounds + 1, seed)?;
+        // before the round, so that the seed of one that does not come to its end is to be seen
+        print!("{}", cells(0, &[totals.rounds + 1, seed].map(|number| number.to_string())));
+        io::stdout().flush()?;
         let examples = totals.compare_round(seed);
-        print_end(start.elapsed(), &totals);
+        let minutes = format!("{:.1}", start.elapsed().as_secs_f64() / 60.0);
+        let counts = totals.so_far().map(|count| count.to_string());
+        println!("{}", cells(2, &[&[minutes], &counts[..]].concat()));
         examples.iter().for_each(|example| println!("{example}"));
         if start.elapsed() >= end {
             break;
@@ -36,4 +42,17 @@ pub fn run(minutes: u64, mut seed: u64) -> io::Result<bool> {
     let holds = totals.unexplained == 0;
     println!("soak: {}", if holds { "as demanded" } else { "FAILED" });
     Ok(holds)
+}
+
+/// These cells of a round's line, from a column on, each as wide as its head and the gap before.
+fn cells(from: usize, texts: &[String]) -> String {
+    let heads = HEAD.as_bytes();
+    let is_end =
+        |end: &usize| heads[*end] != b' ' && heads.get(end + 1).is_none_or(|it| *it == b' ');
+    let ends: Vec<usize> = (0..heads.len()).filter(is_end).map(|end| end + 1).collect();
+    let cell = |(place, text): (usize, &String)| {
+        let width = ends[place] - if place == 0 { 0 } else { ends[place - 1] };
+        format!("{text:>width$}")
+    };
+    (from..).zip(texts).map(cell).collect()
 }

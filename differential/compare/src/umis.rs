@@ -10,7 +10,6 @@ pub mod file_form;
 pub mod found;
 pub mod function;
 mod named;
-pub mod panics;
 mod rates;
 mod rooms;
 pub mod row;
@@ -21,6 +20,7 @@ use self::families::{FULL, KINDS, shape};
 use self::row::Row;
 use self::sequences::Sequences;
 use crate::environment;
+use crate::panics;
 use crate::random::Random;
 
 /// How many sets of each kind are 255 strings of 255 bytes.

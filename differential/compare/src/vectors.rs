@@ -17,7 +17,7 @@ use crate::builders;
 use crate::environment;
 use crate::files;
 use crate::function::{Answers, ELEMENTARY, Function, PHRED, Takes};
-use crate::phred::refusal;
+use crate::panics;
 use crate::random::Random;
 use crate::ranges::{Demand, ranges};
 use crate::recorded;
@@ -67,7 +67,7 @@ fn lists(recorded: &[Vec<f64>], seed: u64) -> Result<Vec<Lines>, String> {
     for (function, recorded) in ELEMENTARY.iter().zip(recorded) {
         lists.push(elementary_lines(function, recorded, &mut random)?);
     }
-    refusal::silence();
+    panics::silence();
     let mut random = Random::new(seed);
     for function in &PHRED {
         lists.push(phred_lines(function, &mut random)?);

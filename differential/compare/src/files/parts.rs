@@ -46,20 +46,25 @@ impl Parts {
     }
 
     fn written(&self) -> (Vec<u8>, Vec<Range<usize>>) {
-        let mut out = Written::default();
-        out.byte(self.settings.len());
-        out.bytes.extend(&self.settings);
-        out.word(self.columns.len());
+        let (mut bytes, mut counts) = (Vec::new(), Vec::new());
+        let mut count = |many: usize, width: usize, bytes: &mut Vec<u8>| {
+            assert!(many >> (8 * width) == 0, "a count of {width} bytes");
+            counts.push(bytes.len()..bytes.len() + width);
+            bytes.extend(&many.to_le_bytes()[..width]);
+        };
+        count(self.settings.len(), 1, &mut bytes);
+        bytes.extend(&self.settings);
+        count(self.columns.len(), 2, &mut bytes);
         for column in &self.columns {
-            out.word(column.len());
-            out.bytes.extend(column.iter().flat_map(|(base, quality)| [base, quality]));
+            count(column.len(), 2, &mut bytes);
+            bytes.extend(column.iter().flat_map(|(base, quality)| [base, quality]));
         }
-        out.byte(self.strings.len());
+        count(self.strings.len(), 1, &mut bytes);
         for string in &self.strings {
-            out.byte(string.len());
-            out.bytes.extend(string);
+            count(string.len(), 1, &mut bytes);
+            bytes.extend(string);
         }
-        (out.bytes, out.counts)
+        (bytes, counts)
     }
 
     /// Lengthens it to exactly so many bytes: by columns of one observation over and over, and a
@@ -86,27 +91,6 @@ impl Parts {
     /// Each observation, whichever its column.
     pub fn observations(&mut self) -> Vec<&mut (u8, u8)> {
         self.columns.iter_mut().flatten().collect()
-    }
-}
-
-#[derive(Default)]
-struct Written {
-    bytes: Vec<u8>,
-    counts: Vec<Range<usize>>,
-}
-
-impl Written {
-    fn byte(&mut self, count: usize) {
-        self.count(&[u8::try_from(count).expect("a count of one byte")]);
-    }
-
-    fn word(&mut self, count: usize) {
-        self.count(&u16::try_from(count).expect("a count of two bytes").to_le_bytes());
-    }
-
-    fn count(&mut self, bytes: &[u8]) {
-        self.counts.push(self.bytes.len()..self.bytes.len() + bytes.len());
-        self.bytes.extend(bytes);
     }
 }
 

@@ -9,8 +9,8 @@ use super::listing::Found;
 use super::named::{self, SAMPLE};
 use super::parts::Parts;
 use crate::hexadecimal::digits;
+use crate::panics;
 use crate::random::Random;
-use crate::umis::panics;
 use crate::vectors::Lines;
 
 /// The letter of a line.

@@ -6,10 +6,10 @@ use oracle::simple_umi::{SimpleConsensusCaller, SimpleUmiConsensusCaller, consen
 
 use super::condition::strand;
 use super::function::{DEFAULTS, Function, Rates};
-use super::panics;
 use crate::builder::report::{state_bytes, state_of};
 use crate::builder::sides::StateBytes;
 use crate::difference::stored_bits;
+use crate::panics;
 
 /// An answer: the string, its flags (false where the function gives none), and the caller's builder
 /// afterwards where the function is asked of a caller.

@@ -1,12 +1,16 @@
-//! The panics by which the Rust refuses a set.
+//! The panics by which the Rust refuses a set, and numbers.
 
 use std::any::Any;
 use std::panic::{AssertUnwindSafe, catch_unwind, resume_unwind, set_hook, take_hook};
 
-use super::condition::{LENGTHS_DIFFER, MIXED, NO_STRINGS, UNLIKE_FIRST};
+use crate::umis::condition::{LENGTHS_DIFFER, MIXED, NO_STRINGS, UNLIKE_FIRST};
+
+/// The number of no condition: what `ln_a_minus_b` refuses.
+pub const OF_NUMBERS: u64 = 0;
 
 /// Words that only the message of this condition has.
-const WORDS: [(&str, u64); 4] = [
+const WORDS: [(&str, u64); 5] = [
+    ("less than zero", OF_NUMBERS),
     ("empty set", NO_STRINGS),
     ("same length", LENGTHS_DIFFER),
     ("at position", UNLIKE_FIRST),
