@@ -1,0 +1,52 @@
+-- Records one column at a time, and how long they are. Assumes nothing.
+use mathlib.Core.Path.{_≡_, refl}
+use mathlib.Core.List.{List, [], _∷_, _++_}
+use Prim.Native.Nat.{ℕ, _+_, _-_, _*_, _≤_, _<_}
+use native.Mathlib.Omega.{arith}
+use lib.ListN.{length, take, drop, length-append}
+use Rattle.column_file.specs.declared.columns.ColumnPlace.the-variants.{At, Past}
+use Rattle.column_file.specs.Format.{Observation}
+use Rattle.column_file.specs.Places.{columnAt, columnsAt}
+use Rattle.column_file.proofs.ColumnWalk.{observations-length, column-inside}
+use Rattle.column_calls.specs.declared.columns.ColumnCall.{ColumnCall}
+use Rattle.column_calls.specs.Tables.{observationsIn}
+use Rattle.column_calls.proofs.Bytes.{part-observations}
+use Rattle.column_calls.proofs.Walk.{columns-more, columns-past, columns-none}
+use Rattle.column_records.specs.Records.{fourBytes, recordOf, recordsWith}
+
+-- 28 bytes each
+record-length : (c : ColumnCall) (depth n : ℕ) → length (recordOf c depth n) ≡ 28
+unfolding recordOf fourBytes
+record-length c depth n = refl
+
+pub records-length : (called : List Observation → ColumnCall) (cs : List (List Observation)) → length (recordsWith called cs) ≡ 28 * length cs
+unfolding recordsWith
+records-length called [] = refl
+records-length called (c ∷ cs) =
+    rw (length-append (recordOf (called c) (length c) (length c)) (recordsWith called cs))
+    (omega (arith, record-length (called c) (length c) (length c), records-length called cs))
+
+-- n columns from a place on, by what is called of each
+module _ (called : List Observation → ColumnCall) (s : List ℕ) (at n : ℕ) where
+  -- their records
+  abbrev left : List ℕ
+  left = recordsWith called (columnsAt s at n)
+
+  -- one column more: its record, and those of the columns after it
+  pub records-more : (start k : ℕ) → 0 < n → columnAt s at ≡ At start k
+      → left
+      ≡ recordOf (called (observationsIn (take (start + 2 * k - start) (drop start s)))) k k
+      ++ recordsWith called (columnsAt s (start + 2 * k) (n - 1))
+  unfolding recordsWith
+  records-more start k h e =
+      rw (columns-more s at n start k h e, observations-length s start k, part-observations s start k (column-inside s at (columnAt s at) refl start k e))
+
+  -- none more: the bytes do not reach
+  pub records-past : columnAt s at ≡ Past → left ≡ []
+  unfolding recordsWith
+  records-past e = rw (columns-past s at n e)
+
+  -- none more: no column is left
+  pub records-none : n ≤ 0 → left ≡ []
+  unfolding recordsWith
+  records-none h = rw (columns-none s at n h)

@@ -1,0 +1,42 @@
+-- `put_record`: its bytes and numbers, one after another. Assumes nothing.
+use mathlib.Core.Path.{ap}
+use Rattle.lent_text.proofs.Printed.{print-then, printed-length, printed-as}
+use borrow.Author.Needs.{needs}
+use Rattle.column_records.specs.Records.{fourBytes, recordOf}
+use Rattle.column_records.proofs.columns.put_record.Statement.{statement}
+use Rattle.column_records.proofs.columns.put_record.Tie as tie
+
+-- the puts, one after another
+whole : tie.Need-returns
+unfolding recordOf
+whole c =
+    let rest = c .before .before in
+    let t = rest .before .before .before .before .before in
+    let g = t .before .before .before .before .before in
+    let l = g .before .before .before .before .before in
+    let a = l .before .before .before .before .before in
+    let depth = a .before .before .before .before .before in
+    let other = depth .before .before .before .before in
+    let zero = other .before .before .before .before in
+    let quality = zero .before .before .before .before in
+    let base = quality .before .before .before .before in
+    print-then
+    (print-then (print-then (print-then (base .put-byte .ensures) (quality .put-byte2 .ensures)) (zero .put-byte3 .ensures)) (other .put-byte4 .ensures))
+    (print-then (depth .put-four .ensures)
+    (print-then (printed-as (a .put-four2 .ensures) (ap fourBytes (a .before .wide .ensures)))
+    (print-then (printed-as (l .put-four3 .ensures) (ap fourBytes (l .before .wide2 .ensures)))
+    (print-then (printed-as (g .put-four4 .ensures) (ap fourBytes (g .before .wide3 .ensures)))
+    (print-then (printed-as (t .put-four5 .ensures) (ap fourBytes (t .before .wide4 .ensures))) (printed-as (rest .put-four6 .ensures) (ap fourBytes (rest .before .ignored .ensures))))))))
+
+same-length : tie.Need-same-length
+same-length c = printed-length (whole c)
+
+pub put-record-spec : {M : Type 1} → statement M
+put-record-spec =
+    tie.close
+    (tie.spec
+    (λ c κs. search needs) (λ c κs. search needs) (λ c κs. search needs) (λ c κs. search needs) (λ c κs. search needs)
+    (λ c. search needs) (λ c κs. search needs) (λ c κs. search needs) (λ c. search needs) (λ c κs. search needs) (λ c κs. search needs)
+    (λ c. search needs) (λ c κs. search needs) (λ c κs. search needs) (λ c. search needs) (λ c κs. search needs) (λ c κs. search needs)
+    (λ c κs. search needs) (λ c κs. search needs)
+    same-length whole)

@@ -1,0 +1,113 @@
+-- `put_records`: what is put, and the records of the columns that are left, are all, at each turn. Assumes nothing.
+use native.Mathlib.Omega.{arith}
+use mathlib.Core.Path.{_≡_, refl, sym, _∙_}
+use mathlib.Core.List.{List, [], _++_}
+use Prim.Native.Nat.{ℕ, _+_, _-_, _*_, _≤_}
+use lib.ListN.{length, take, drop}
+use Rattle.unanimous_shortcut.specs.Unanimous.{tablesOf}
+use Rattle.lent_text.specs.Printed.{Printed}
+use Rattle.lent_text.proofs.Printed.{print-then, print-none, printed-length, printed-as}
+use Rattle.column_file.specs.Places.{columnsAt}
+use Rattle.column_calls.specs.Tables.{observationsIn, columnCallWith}
+use Rattle.listing_lines.proofs.Lines.{column-fits, one-more, no-more}
+use Rattle.column_records.specs.Records.{recordOf, recordsWith}
+use Rattle.column_records.proofs.RecordLaws.{records-more, records-past, records-none}
+use borrow.Author.Needs.{needs}
+use Rattle.column_records.proofs.columns.put_records.Statement.{statement}
+use Rattle.column_records.proofs.columns.put_records.Tie as tie
+
+abbrev Inv-loop : tie.InvT-loop
+Inv-loop file from count start rows thresholds cerr-min cap out₀ column₀ left₀ place₀ out column left place =
+    let called = columnCallWith rows start (tablesOf thresholds cerr-min cap) in
+    (done : List ℕ)
+    × Printed out₀ 0 done out place
+    × (done ++ recordsWith called (columnsAt file column left) ≡ recordsWith called (columnsAt file from count))
+
+abbrev μ-loop : tie.MeasureT-loop
+μ-loop file from count start rows thresholds cerr-min cap out₀ column₀ left₀ place₀ out column left place = left
+
+-- the column lies in the file
+inside : (c : tie.After-known-told Inv-loop μ-loop)
+    → c .before .next .given .0 .0 + 2 * c .before .next .given .0 .1 .0
+    ≤ length (c .before .before .before .before .before .before .before .before .args .file .now)
+inside c =
+    let l = c .before .before .before .before .before .loop in
+    let a = c .before .before .before .before .before .before .before .before .args in
+    let n = c .before .next .given in
+    column-fits (a .file .now) (l .column) (n .0 .0) (n .0 .1 .0) (sym (c .before .before .before .column-at .ensures .0) ∙ n .1)
+
+loop-holds : tie.Need-loop-holds Inv-loop μ-loop
+loop-holds c = ([], print-none _ _ (omega arith) (omega arith), refl)
+
+same-length : tie.Need-same-length Inv-loop μ-loop
+same-length c = printed-length (c .before .before .before .before .loop .inv .1)
+
+returns : tie.Need-returns Inv-loop μ-loop
+returns c =
+    let at-loop = c .before .before .before .before in
+    let l = at-loop .loop in
+    let a = at-loop .before .before .before .args in
+    let called = columnCallWith (a .rows .now) (a .start) (tablesOf (a .thresholds .now) (a .cerr-min .now) (a .cap)) in
+    let e = sym (c .before .before .column-at .ensures .0) ∙ c .enum-told .given .1 in
+    printed-as (l .inv .1) (no-more (l .inv .0) _ _ (records-past called (a .file .now) (l .column) (l .left) e) (l .inv .2))
+
+mul-end : tie.Need-mul-end Inv-loop μ-loop
+mul-end c = omega (arith, inside c)
+
+add-end : tie.Need-add-end Inv-loop μ-loop
+add-end c = omega (arith, inside c)
+
+part-call-column-end : tie.Need-part-call-column-end Inv-loop μ-loop
+part-call-column-end c = inside c
+
+loop-again : tie.Need-loop-again Inv-loop μ-loop
+loop-again c =
+    let put = c .before .before in
+    let called-at = put .before .before in
+    let at-next = called-at .before .before .before in
+    let at-loop = at-next .before .before .before .before in
+    let l = at-loop .loop in
+    let a = at-loop .before .before .before .args in
+    let n = at-next .next .given in
+    let s = a .file .now in
+    let called = columnCallWith (a .rows .now) (a .start) (tablesOf (a .thresholds .now) (a .cerr-min .now) (a .cap)) in
+    let end = n .0 .0 + 2 * n .0 .1 .0 in
+    let one = recordOf (called (observationsIn (take (end - n .0 .0) (drop (n .0 .0) s)))) (n .0 .1 .0) (n .0 .1 .0) in
+    let e = sym (at-next .before .before .column-at .ensures .0) ∙ n .1 in
+    let p : Printed (l .out) (l .place) one (put .put-record .last .0) (put .put-record .result) =
+    rw (← called-at .call-column .ensures) (put .put-record .ensures) in (
+      l .inv .0 ++ one,
+      print-then (l .inv .1) p,
+      one-more (l .inv .0) one _ _ _
+          (records-more called s (l .column) (l .left) (n .0 .0) (n .0 .1 .0) (at-next .before .before .before .loop-test .taken) e)
+          (l .inv .2),
+    )
+
+same-length-2 : tie.Need-same-length-2 Inv-loop μ-loop
+same-length-2 c = printed-length (c .before .loop .inv .1)
+
+returns-2 : tie.Need-returns-2 Inv-loop μ-loop
+returns-2 c =
+    let l = c .before .loop in
+    let a = c .before .before .before .before .args in
+    let called = columnCallWith (a .rows .now) (a .start) (tablesOf (a .thresholds .now) (a .cerr-min .now) (a .cap)) in
+    printed-as (l .inv .1) (no-more (l .inv .0) _ _ (records-none called (a .file .now) (l .column) (l .left) (omega arith)) (l .inv .2))
+
+pub put-records-spec : {M : Type 1} → statement M
+put-records-spec =
+    tie.close
+    (tie.spec
+    Inv-loop
+    μ-loop
+    loop-holds
+    (λ c κs. tt) (λ c. search needs) (λ c. search needs)
+    same-length
+    returns
+    mul-end
+    add-end
+    (λ c. search needs) (λ c. search needs)
+    part-call-column-end
+    (λ c κs. tt) (λ c κs. tt) (λ c. search needs) (λ c. search needs)
+    loop-again
+    same-length-2
+    returns-2)
