@@ -27,7 +27,8 @@ pub enum Walk {
     Past,
 }
 
-// One set's answer, from a place on: the code, the string, the builder. A string has at most 255 bytes.
+// One set's answer, from a place on: the code, the string, the builder. No string has more than 255 bytes,
+// so that no set is refused by 10.
 fn put_set(
     question: Question,
     caller: SimpleConsensusCaller,

@@ -1,13 +1,8 @@
 -- `put_set`: the code, the string from the front of its buffer, and the builder. Assumes nothing.
 use mathlib.Core.Path.{_≡_, sym, _∙_, ap}
-use mathlib.Core.List.{List, _++_}
-use Prim.Native.Nat.{ℕ}
 use borrow.Author.Needs.{needs}
 use lib.ListN.{length, take}
-use lib.Seq.{length-take-le}
 use Rattle.lent_text.proofs.Printed.{print-then, printed-as}
-use Rattle.export_reports.specs.Bytes.{bytesOf}
-use Rattle.export_reports.specs.Report.{builderBytes}
 use Rattle.export_umi.specs.declared.asked.Asked.{Asked}
 use Rattle.export_umi.specs.Asked.{foundBy, textIn}
 use Rattle.export_umi.specs.Sent.{room}

@@ -1,5 +1,5 @@
 -- `umi_sets`: each arm is a question to the new caller, and the last gives 0. Assumes nothing.
-use mathlib.Core.Path.{_≡_, refl}
+use mathlib.Core.Path.{refl}
 use mathlib.Core.List.{[]}
 use borrow.Author.Tests.{ne-eqb}
 use borrow.Author.Needs.{needs}
