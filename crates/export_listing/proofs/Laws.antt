@@ -1,43 +1,70 @@
--- The number of a listing's answer; its length is far below 64 bits. Assumes nothing.
-use mathlib.Core.Path.{_≡_, refl}
+-- The number of an answer; its length is far below 64 bits. Assumes nothing.
+use mathlib.Core.Path.{_≡_, refl, sym, _∙_, ap, subst}
 use mathlib.Core.List.{List}
 use Prim.Native.Nat.{ℕ, _+_, _≤_}
+use native.Mathlib.Omega.{arith}
 use lib.Dec.{ltb}
 use lib.ListN.{length}
 use Rattle.words.proofs.Cases.{choice}
 use Rattle.refusals.specs.declared.Refusal.the-variants.{BufferTooShort}
-use Rattle.refusals.specs.Refusals.{numberOf}
 use Rattle.refusals.specs.Result.{Result, refused, accepted, andThen}
+use Rattle.simple_umi.specs.Consensus.{Found, defaultCaller, consensusOf}
+use Rattle.column_file.specs.Reading.{File, readFile}
+use Rattle.column_calls.specs.Columns.{calledColumn}
 use Rattle.column_listing.specs.declared.listing.Listing.{Listing}
 use Rattle.column_listing.specs.declared.listing.Listing.the-variants as listing
 use Rattle.column_listing.specs.Listing.{listed, printed, listingOf}
 use Rattle.column_listing.specs.Answers.{roomFor, listedIn, listingAnswer}
+use Rattle.column_listing.proofs.Files.{two-each, columns-inside, file-size}
 use Rattle.column_listing_laws.proofs.Longest.{fits}
-use Rattle.export_listing.specs.Reply.{listingReply}
+use Rattle.column_records.specs.Records.{recordsWith, recordsOf, recordsIn}
+use Rattle.column_records.proofs.RecordLaws.{records-length}
+use Rattle.export_listing.specs.Reply.{listingReply, answerReply, Short}
 
--- what the code makes of an answer
-abbrev pub codeOf : Listing → ℕ
-codeOf (listing.Refused r) = numberOf r
-codeOf (listing.Given n) = 256 + n
+-- an answer's number is that of what it answers
+answer-is : (t : Result (List ℕ)) → answerReply (listingAnswer t) ≡ listingReply t
+answer-is (refused r) = refl
+answer-is (accepted t) = refl
 
-coded : (t : Result (List ℕ)) → codeOf (listingAnswer t) ≡ listingReply t
-coded (refused r) = refl
-coded (accepted t) = refl
+pub reply-is : (t : Result (List ℕ)) {g : Listing} {n : ℕ} → g ≡ listingAnswer t → n ≡ answerReply g → n ≡ listingReply t
+reply-is t e k = k ∙ ap answerReply e ∙ answer-is t
 
-pub code-is : (s out : List ℕ) → codeOf (listingAnswer (listedIn s out)) ≡ listingReply (listedIn s out)
-code-is s out = coded (listedIn s out)
+-- ---- lengths
 
--- the length that an answer gives
-abbrev pub Short : Listing → Type 0
-Short (listing.Refused r) = Unit {0}
-Short (listing.Given n) = n ≤ 2400000
+-- of what is to be written
+abbrev Few : Result (List ℕ) → Type 0
+Few (refused r) = Unit {0}
+Few (accepted t) = length t ≤ 2400000
 
-in-room : (out : List ℕ) (t : Result (List ℕ)) → length (printed t) ≤ 2400000 → Short (listingAnswer (andThen t (roomFor out)))
+in-room : (out : List ℕ) (t : Result (List ℕ)) → Few t → Short (listingAnswer (andThen t (roomFor out)))
 unfolding roomFor
 in-room out (refused r) h = tt
 in-room out (accepted t) h =
     choice (λ (u : Result (List ℕ)). Short (listingAnswer u)) (ltb (length out) (length t)) (refused BufferTooShort) (accepted t) (λ e. tt) (λ e. h)
 
-pub short : (s out : List ℕ) → Short (listingAnswer (listedIn s out))
+-- of a listing
+printed-few : (t : Result (List ℕ)) → length (printed t) ≤ 2400000 → Few t
+printed-few (refused r) h = tt
+printed-few (accepted t) h = h
+
+pub listing-short : (s out : List ℕ) (g : Listing) → g ≡ listingAnswer (listedIn s out) → Short g
 unfolding listedIn listingOf
-short s out = in-room out (listed s) (fits s .most)
+listing-short s out g e = subst Short (sym e) (in-room out (listed s) (printed-few (listed s) (fits s .most)))
+
+-- of records: 28 bytes for each column, which takes at least two of 65,536
+records-few : (s : List ℕ) (f : File) → readFile s ≡ accepted f → length (recordsWith (calledColumn (f .settings)) (f .columns)) ≤ 2400000
+records-few s f e =
+    omega (arith, records-length (calledColumn (f .settings)) (f .columns), two-each (f .columns), columns-inside s f e, file-size s f e)
+
+by-strings : (t : List ℕ) → length t ≤ 2400000 → (v : Result Found) → Few (andThen v (λ u. accepted t))
+by-strings t h (refused r) = tt
+by-strings t h (accepted u) = h
+
+by-file : (s : List ℕ) (v : Result File) → readFile s ≡ v
+    → Few (andThen v (λ f. andThen (consensusOf defaultCaller (f .strings)) (λ u. accepted (recordsWith (calledColumn (f .settings)) (f .columns)))))
+by-file s (refused r) e = tt
+by-file s (accepted f) e = by-strings _ (records-few s f e) (consensusOf defaultCaller (f .strings))
+
+pub records-short : (s out : List ℕ) (g : Listing) → g ≡ listingAnswer (recordsIn s out) → Short g
+unfolding recordsIn recordsOf
+records-short s out g e = subst Short (sym e) (in-room out (recordsOf s) (by-file s (readFile s) refl))
