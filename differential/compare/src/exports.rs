@@ -119,6 +119,7 @@ unsafe extern "C" {
 
     fn consensus_list(file: *const u8, file_length: usize, out: *mut u8, length: usize) -> u64;
     fn consensus_listing(file: *const u8, file_length: usize, out: *mut u8, length: usize) -> u64;
+    fn consensus_records(file: *const u8, file_length: usize, out: *mut u8, length: usize) -> u64;
     fn consensus_calls(file: *const u8, file_length: usize, times: u32) -> u64;
 }
 
@@ -214,6 +215,13 @@ pub fn listing(file: &[u8], out: &mut [u8]) -> u64 {
     let (file, file_length) = (file.as_ptr(), file.len());
     // SAFETY: as above.
     unsafe { consensus_listing(file, file_length, out.as_mut_ptr(), out.len()) }
+}
+
+/// `consensus_records` of a column file.
+pub fn records(file: &[u8], out: &mut [u8]) -> u64 {
+    let (file, file_length) = (file.as_ptr(), file.len());
+    // SAFETY: as above.
+    unsafe { consensus_records(file, file_length, out.as_mut_ptr(), out.len()) }
 }
 
 /// `consensus_calls` of a column file.

@@ -13,6 +13,7 @@ mod observations;
 pub mod parts;
 mod rates;
 pub mod reader;
+mod records;
 mod rooms;
 pub mod row;
 mod sample;

@@ -1,26 +1,40 @@
 //! A call of ours, and what it is to leave.
 
+use std::borrow::Cow;
+
 use super::listing::Found;
+use super::records;
 use crate::exports;
 use crate::outcome::{GUARD, Outcome};
 use crate::umis::condition::TOO_SHORT;
 
-/// The two functions that list a file.
+/// The functions that list a file, as text or as records.
 #[derive(Clone, Copy, PartialEq, Eq)]
 pub enum Function {
     /// `consensus_list`: what the program prints, a refusal too, and how long that is.
     List,
     /// `consensus_listing`: a refusal by its number alone.
     Listing,
+    /// `consensus_records`: the same with records of 28 bytes.
+    Records,
 }
 
 impl Function {
-    pub const ALL: [Self; 2] = [Self::List, Self::Listing];
+    pub const ALL: [Self; 3] = [Self::List, Self::Listing, Self::Records];
 
     pub fn name(self) -> &'static str {
         match self {
             Self::List => "consensus_list",
             Self::Listing => "consensus_listing",
+            Self::Records => "consensus_records",
+        }
+    }
+
+    /// What is to be written where this is the text.
+    pub fn bytes(self, text: &[u8]) -> Cow<'_, [u8]> {
+        match self {
+            Self::List | Self::Listing => text.into(),
+            Self::Records => records::of_text(text).into(),
         }
     }
 
@@ -28,16 +42,16 @@ impl Function {
     fn too_short(self) -> u64 {
         match self {
             Self::List => 0,
-            Self::Listing => TOO_SHORT,
+            Self::Listing | Self::Records => TOO_SHORT,
         }
     }
 
-    /// The reply where the text is written.
-    fn written(self, text: &[u8]) -> u64 {
-        let length = text.len() as u64;
+    /// The reply where these bytes are written.
+    fn written(self, bytes: &[u8]) -> u64 {
+        let length = bytes.len() as u64;
         match self {
             Self::List => length,
-            Self::Listing => 256 + length,
+            Self::Listing | Self::Records => 256 + length,
         }
     }
 }
@@ -54,19 +68,23 @@ impl Call<'_> {
         Outcome::of(self.room, |out| match self.function {
             Function::List => exports::list(self.file, out),
             Function::Listing => exports::listing(self.file, out),
+            Function::Records => exports::records(self.file, out),
         })
     }
 
     /// What is demanded where this is found, with this text. One that does not fit leaves the
     /// buffer, and so does a refusal that is a number.
     pub fn demanded(&self, found: &Found, text: &[u8]) -> Outcome {
-        if let (Function::Listing, Found::Refused(number)) = (self.function, found) {
+        if let (Function::Listing | Function::Records, Found::Refused(number)) =
+            (self.function, found)
+        {
             return Outcome::written(self.room, *number, &[]);
         }
-        if text.len() > self.room {
+        let asked = self.function.bytes(text);
+        if asked.len() > self.room {
             return Outcome::written(self.room, self.function.too_short(), &[]);
         }
-        Outcome::written(self.room, self.function.written(text), text)
+        Outcome::written(self.room, self.function.written(&asked), &asked)
     }
 }
 

@@ -64,16 +64,18 @@ impl Row {
         }
     }
 
-    /// One call of each function.
+    /// One call of each function. Records get as much more or less room than they need as the text.
     pub fn compare(&mut self, file: &[u8], room: usize, found: &Found, text: &[u8]) {
         for function in Function::ALL {
-            self.count(function, room, found, text);
+            let needed = function.bytes(text).len();
+            let room = (room + needed).saturating_sub(text.len());
+            self.count(function, room, found, needed);
             self.compare_call(&Call { function, file, room }, found, text);
         }
     }
 
-    fn count(&mut self, function: Function, room: usize, found: &Found, text: &[u8]) {
-        let too_short = room < text.len();
+    fn count(&mut self, function: Function, room: usize, found: &Found, needed: usize) {
+        let too_short = room < needed;
         match (function, found) {
             (Function::List, _) => {
                 self.counts.one("calls");
@@ -87,6 +89,11 @@ impl Row {
             (Function::Listing, Found::Refused(_)) => {
                 self.counts.one("listing");
                 self.counts.one("listing, refused");
+            }
+            (Function::Records, _) => {
+                self.counts.one("records");
+                let listed = matches!(found, Found::Listed(_));
+                self.counts.add("records, too short", listed && too_short);
             }
         }
     }

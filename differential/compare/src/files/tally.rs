@@ -28,6 +28,9 @@ pub fn print(rows: &[Row]) -> bool {
     let listing = "files: consensus_listing beside the same texts, {listing} calls: {listing, refused} \
                    refused by the number, {listing, too short} by 10; differences are counted above";
     println!("{}", counts.told(listing));
+    let records = "files: consensus_records beside them, {records} calls: {records, too short} refused \
+                   by 10; differences are counted above";
+    println!("{}", counts.told(records));
     counts.of("differ") == 0 && demanded
 }
 
@@ -58,6 +61,7 @@ fn demanded(counts: &Counts) -> bool {
     let others = [
         ("0, for too short a buffer", of("too short")),
         ("10, for too short a buffer", of("listing, too short")),
+        ("10, for too short a buffer of records", of("records, too short")),
         ("256 and more", of("listing, written")),
         ("a column called N", of("columns called N") - of("empty columns")),
         ("a column called otherwise", of("columns") - of("columns called N")),
