@@ -10,7 +10,7 @@ use lib.Seq.{take-append-seam}
 use Rattle.words.specs.Choice.{if_then_else_}
 use Rattle.lent_bytes.specs.Buffer.{written}
 use Rattle.refusals.specs.declared.Refusal.{Refusal}
-use Rattle.refusals.specs.declared.Refusal.the-variants.{FileTooLong, CutOff, BadSettings, AbsentQuality, NoStrings, LengthsDiffer, NotAscii, UnlikeFirst, Mixed, BufferTooShort}
+use Rattle.refusals.specs.declared.Refusal.the-variants.{FileTooLong, CutOff, BadSettings, AbsentQuality, NoStrings, LengthsDiffer, NotAscii, UnlikeFirst, Mixed, BufferTooShort, FullBuilder}
 use Rattle.refusals.specs.Refusals.{numberOf}
 use Rattle.refusals.specs.Result.{Result, refused, accepted}
 use Rattle.export_reports.specs.Report.{builderBytes}
@@ -76,6 +76,7 @@ number-small NotAscii = omega arith
 number-small UnlikeFirst = omega arith
 number-small Mixed = omega arith
 number-small BufferTooShort = omega arith
+number-small FullBuilder = omega arith
 
 -- both ways of each kind of answer
 abbrev ByCode : ℕ → Result Found → Type 0
