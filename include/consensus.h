@@ -7,7 +7,7 @@
  *   - a pointer leads to LENGTH elements at least; where LENGTH is 0 it may be any pointer but NULL;
  *   - OUT overlaps no input, and nobody else writes to either while the call runs;
  *   - the floating point unit rounds to nearest and keeps subnormal numbers, as it does when a program starts;
- *   - 256 KiB of stack are free;
+ *   - 64 KiB of stack are free (27 KB were the most that was measured, in consensus_records);
  *   - x86-64 with the System V calling convention (Linux).
  *
  * What does not fit OUT is not written at all. Bytes of OUT behind an answer stay as they were. Numbers in answers have their
@@ -155,11 +155,12 @@ uint64_t consensus_tables(uint8_t pre, uint8_t post, uint8_t *out, size_t out_le
 
 /* ---- for timing -------------------------------------------------------------------------------------------------------- */
 
-/* Calls every column of a file TIMES times with tables built once. Reply: the sum of all bases and qualities, 0 for a refused
- * file. */
+/* Calls every column of a file TIMES times with tables built once. Reply: the sum of all bases and qualities, modulo 2^64; 0 for a
+ * file that conditions 1 to 4 refuse. Its strings are not asked. */
 uint64_t consensus_calls(const uint8_t *file, size_t file_length, uint32_t times);
 
-/* Runs a script TIMES times on a new builder each. Reply: the sum of all reported bases and qualities. */
+/* Runs a script TIMES times, each on a new builder. In such a script event 3 asks for call and event 4 for call_full. Reply: the sum of
+ * their bases and qualities, modulo 2^64; 0 where the rule is above 1 or the script is none. */
 uint64_t consensus_history_times(uint8_t pre, uint8_t post, uint8_t rule, const uint8_t *script, size_t script_length,
                                  uint32_t times);
 

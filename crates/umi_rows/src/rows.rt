@@ -52,7 +52,8 @@ fn byte_after(set: &[u8], place: usize, at: usize) -> u8
     set[place + 1 + at]
 }
 
-// The bytes that the strings, or the first 255 of them, have at one place.
+// The bytes that the strings, or the first 255 of them, have at one place. What stands behind them in the
+// array is free: nobody reads it.
 pub fn gather(set: &[u8], places: &[usize], at: usize) -> [u8; 255]
     ensures { λ r. ⌜ take (length (now (places .entry))) r ≡ take 255 (bytesAt at (now (set .entry)) (now (places .entry))) ⌝ }
 {
