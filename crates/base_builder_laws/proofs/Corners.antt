@@ -23,7 +23,7 @@ use Rattle.rate_tables.specs.Adjusted.{adjustedError, correctAt, errorPerAltAt,
 use Rattle.words.specs.Lists.{listed}
 use Rattle.base_builder.specs.declared.observation.Sum.{Sum}
 use Rattle.base_builder.specs.Observation.{movedBy}
-use Rattle.base_builder_laws.specs.Corners.{sinksAt, aboutLn, atQuality0}
+use Rattle.base_builder_laws.specs.Corners.{sinksAt, aboutLn, atQuality0, NanAfter}
 
 sinks : T (everyFrom sinksAt 0 94)
 unfolding add sub mul div neg lt le eq ne isNan ofBits toBits ofInt headOf lostOf productErrorOf fmaSmallProductOf fmaLargeProductOf expRowOf seriesOf powerOfTwoOf scaledOf from0Of nearOf expOf absOf betweenOf floorOf lnRowOf ratioOf normalOf reducedOf expansionOf joinedOf numberOf lnOnePlusOf lnOf correctionOf nearZeroOf shiftedOf expMinusOneOf phredToLnErrorProb lnOneMinusExp lnNot log1pexpOf lnAMinusB lnSumExpGeneral lnSumExp twoTrials lnErrorProbTwoTrials adjustedError correctAt listed adjustedTables sinksAt everyFrom
@@ -42,7 +42,7 @@ sinks-from-27 q = test (ltb q 94) (λ h. below sinksAt 94 sinks q (ltb-true q 94
 
 -- and at quality 0 about ln(1/3), the others about ln(2/9)
 pub at-quality-0 : T (all atQuality0)
-unfolding add sub mul div neg lt le eq ne isNan ofBits toBits ofInt headOf lostOf productErrorOf fmaSmallProductOf fmaLargeProductOf expRowOf seriesOf powerOfTwoOf scaledOf from0Of nearOf expOf absOf betweenOf floorOf lnRowOf ratioOf normalOf reducedOf expansionOf joinedOf numberOf lnOnePlusOf lnOf correctionOf nearZeroOf shiftedOf expMinusOneOf phredToLnErrorProb lnOneMinusExp lnNot log1pexpOf lnAMinusB lnSumExpGeneral lnSumExp twoTrials lnErrorProbTwoTrials adjustedError correctAt errorPerAltAt aboutLn
+unfolding add sub mul div neg lt le eq ne isNan ofBits toBits ofInt headOf lostOf productErrorOf fmaSmallProductOf fmaLargeProductOf expRowOf seriesOf powerOfTwoOf scaledOf from0Of nearOf expOf absOf betweenOf floorOf lnRowOf ratioOf normalOf reducedOf expansionOf joinedOf numberOf lnOnePlusOf lnOf correctionOf nearZeroOf shiftedOf expMinusOneOf phredToLnErrorProb lnOneMinusExp lnNot log1pexpOf lnAMinusB lnSumExpGeneral lnSumExp twoTrials lnErrorProbTwoTrials adjustedError correctAt errorPerAltAt listed adjustedTables aboutLn
 at-quality-0 = tt
 
 -- a value of -infinity leaves a compensation that is no number, whatever lane and compensation were
@@ -77,8 +77,7 @@ and-nan nan = refl
 and-nan (inf s) = refl
 and-nan (fin s m e) = refl
 
--- after -infinity the next counted base makes that lane NaN
-pub nan-after : (v : Float) (s : Sum) → movedBy v (movedBy lnZero s) .lane ≡ nan
+pub nan-after : NanAfter
 unfolding movedBy
 nan-after v s =
     ap (λ (c : Float). movedBy lnZero s .lane ⊕ (v ⊖ c)) (sunk (s .lane) (s .compensation))

@@ -7,7 +7,7 @@ use native.Mathlib.Omega.{arith}
 use lib.Dec.{T, eqb, ltb}
 use borrow.Author.Tests.{le-leb, ltb-true}
 use Rattle.words.proofs.Cases.{both, choice}
-use Rattle.phred.proofs.Levels.{Level}
+use Rattle.phred.specs.Laws.{Level}
 use Rattle.gap_tables.specs.Gaps.{gapTables}
 use Rattle.tie_rules.specs.Lanes.{noLane, baseOf}
 use Rattle.lane_calls.specs.declared.call.Call.{Call}

@@ -13,7 +13,8 @@ use Rattle.float.specs.Ops.{_⊖_, epsilon}
 use Rattle.words.proofs.Cases.{both, choice, clash}
 use Rattle.float.proofs.Order.{lt-trans, lt-le}
 use Rattle.phred.specs.Phred.{phredToLnErrorProb}
-use Rattle.phred.proofs.Levels.{Level, levels}
+use Rattle.phred.specs.Laws.{Level}
+use Rattle.phred.proofs.Levels.{levels}
 use Rattle.gap_tables.specs.declared.gaps.UnanimousGapTables.{UnanimousGapTables}
 use Rattle.gap_tables.specs.Thresholds.{gap0, thresholdWith}
 use Rattle.gap_tables.specs.Gaps.{unanimousQualityFromGap, thresholdAt, capOf, gapTables}

@@ -8,7 +8,8 @@ use borrow.Author.Tests.{ltb-true}
 use Rattle.float.specs.Ops.{_⊕_, _⊖_}
 use Rattle.words.proofs.Cases.{both, choice, clash}
 use Rattle.phred.specs.Phred.{lnProbToPhred}
-use Rattle.phred.proofs.Levels.{Level, levels}
+use Rattle.phred.specs.Laws.{Level}
+use Rattle.phred.proofs.Levels.{levels}
 use Rattle.gap_tables.specs.Gaps.{gapTables}
 use Rattle.tie_rules.specs.Lanes.{lane, noLane, baseOf}
 use Rattle.tie_rules.specs.Ties.{untied, noneAbove}

@@ -1,5 +1,6 @@
 -- Corners of base_builder.rs that are computed.
 use Prim.Native.Nat.{ℕ}
+use mathlib.Core.Path.{_≡_}
 use mathlib.Core.Bool.{Bool, Bool·beq}
 use mathlib.Core.List.{List, [], _∷_}
 use lib.Dec.{leb}
@@ -9,7 +10,9 @@ use Rattle.float.specs.Ops.{_⊖_, _⊘_, bits, whole}
 use Rattle.float.specs.Methods.{absOf}
 use Rattle.elementary.specs.Ln.{lnOf}
 use Rattle.phred.specs.Phred.{lnZero}
-use Rattle.rate_tables.specs.Adjusted.{correctAt, errorPerAltAt, adjustedTables}
+use Rattle.rate_tables.specs.Adjusted.{adjustedTables}
+use Rattle.base_builder.specs.declared.observation.Sum.{Sum}
+use Rattle.base_builder.specs.Observation.{movedBy}
 use Rattle.base_builder.specs.Builder.{entryOf}
 
 -- at post-UMI rate 0 the matching lane gets -infinity at this quality byte exactly where it is 27 or more
@@ -26,4 +29,11 @@ aboutLn x m n = lt (absOf (x ⊖ lnOf (whole m ⊘ whole n))) p50
 
 -- at post-UMI rate 0 and quality 0 it gets about ln(1/3), and the others about ln(2/9)
 abbrev pub atQuality0 : List Bool
-atQuality0 = aboutLn (correctAt 0 0) 1 3 ∷ aboutLn (errorPerAltAt 0 0) 2 9 ∷ []
+atQuality0 =
+    aboutLn (getD (adjustedTables 0 .correct) (entryOf 0) nan) 1 3
+    ∷ aboutLn (getD (adjustedTables 0 .«error_per_alt») (entryOf 0) nan) 2 9
+    ∷ []
+
+-- after a value of -infinity the next counted base makes a lane NaN, whatever lane and compensation were
+abbrev pub NanAfter : Type 0
+NanAfter = (v : Float) (s : Sum) → movedBy v (movedBy lnZero s) .lane ≡ nan

@@ -8,7 +8,7 @@ use Rattle.refusals.specs.declared.Refusal.the-variants.{CutOff, BufferTooShort
 use Rattle.refusals.specs.declared.Verdict.the-variants.{Sound, Refused}
 use Rattle.refusals.specs.Refusals.{numberIn}
 use Rattle.refusals.specs.Result.{Result, refused, accepted}
-use Rattle.string_set.specs.Readers.{alone}
+use Rattle.string_set.specs.Readers.{alone, longestFile}
 use Rattle.string_set.specs.StringSet.{stringSet, readSet}
 use Rattle.string_set.specs.Places.{placesAfter}
 use Rattle.simple_umi.specs.declared.caller.SimpleConsensusCaller.{SimpleConsensusCaller}
@@ -22,11 +22,11 @@ use Rattle.column_listing.specs.Answers.{listedIn, listingBuffer}
 -- the bytes of a string set
 pub record SetConditions (set : List ℕ) : Type 0 where
   -- 1: over 65,536 bytes
-  pub too-long : 65536 < length set → numberIn (readSet set) ≡ 1
+  pub too-long : longestFile < length set → numberIn (readSet set) ≡ 1
   -- 2: else, where they are no set up to the last
-  pub cut-off : length set ≤ 65536 → alone (stringSet set) ≡ refused CutOff → numberIn (readSet set) ≡ 2
+  pub cut-off : length set ≤ longestFile → alone (stringSet set) ≡ refused CutOff → numberIn (readSet set) ≡ 2
   -- and none else
-  pub accepted-else : length set ≤ 65536 → (l : List (List ℕ)) → alone (stringSet set) ≡ accepted l → readSet set ≡ accepted l
+  pub accepted-else : length set ≤ longestFile → (l : List (List ℕ)) → alone (stringSet set) ≡ accepted l → readSet set ≡ accepted l
 
 -- a function on a set's bytes: judge is what it says of strings, text the answer's string, and said what it says of the bytes and a buffer
 pub record InTurn {A : Type 0} (judge : List (List ℕ) → Result A) (text : A → List ℕ) (set out : List ℕ) (said : Result A) : Type 0 where

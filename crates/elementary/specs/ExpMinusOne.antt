@@ -1,20 +1,11 @@
 -- exp(x) - 1: for a y near 0 it is y + y²/2 and a correction; a little further below 0 it is (exp(y) - 1)/2 - 1/2 at y = x + ln 2.
 use lib.Ieee.{Float, eq, neg}
 use Rattle.elementary.specs.declared.exp_minus_one.Correction.{Correction}
-use Rattle.float.specs.Ops.{_⊕_, _⊖_, _⊗_, _⊘_, bits, plusZero, one}
+use Rattle.float.specs.Ops.{_⊕_, _⊖_, _⊗_, _⊘_, bits, plusZero, one, half, three, six}
 use Rattle.words.specs.Choice.{if_then_else_}
 use Rattle.float.specs.Methods.{betweenOf}
 use Rattle.elementary.specs.Fma.{fmaSmallProductOf, fmaLargeProductOf}
 use Rattle.elementary.specs.Exp.{expOf}
-use Rattle.elementary.specs.LnOnePlus.{half}
-
--- 3
-abbrev pub three : Float
-three = bits 0x4008_0000_0000_0000
-
--- 6
-abbrev pub six : Float
-six = bits 0x4018_0000_0000_0000
 
 -- the number just above 1
 abbrev pub up : Float

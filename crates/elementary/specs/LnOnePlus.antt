@@ -4,14 +4,10 @@ use mathlib.Core.Bool.{_&&_}
 use lib.Ieee.{Float, binary64, toBits, lt, le, eq, neg}
 use Rattle.elementary.specs.declared.ln_one_plus.Parts.{Parts}
 use Rattle.elementary.specs.declared.ln_one_plus.Series.{Series}
-use Rattle.float.specs.Ops.{_⊕_, _⊖_, _⊗_, _⊘_, bits, whole, plusZero, one}
+use Rattle.float.specs.Ops.{_⊕_, _⊖_, _⊗_, _⊘_, bits, whole, plusZero, one, half}
 use Rattle.words.specs.Choice.{if_then_else_}
 use Rattle.float.specs.Methods.{betweenOf}
 use Rattle.elementary.specs.Fma.{fmaLargeProductOf}
-
--- 1/2
-abbrev pub half : Float
-half = bits 0x3fe0_0000_0000_0000
 
 -- 1 + x as (1 + f)·2^k, with c for what 1 + x lost when it was rounded, relative to it. The pattern of 1 + x is taken from that of √½ on, so that v holds
 -- k + 1024 above the 52 digits of 1 + f.

@@ -13,9 +13,10 @@ use Rattle.elementary.specs.Exp.{seriesOf, powerOfTwoOf, scaledOf, from0Of, nea
 use Rattle.elementary.specs.ExpMinusOne.{correctionOf, nearZeroOf, shiftedOf, expMinusOneOf}
 use Rattle.elementary.specs.LnOnePlus.{reducedOf, expansionOf, joinedOf, numberOf, lnOnePlusOf}
 use Rattle.elementary.specs.Ln.{ratioOf, normalOf, lnOf}
+use Rattle.elementary.proofs.Signs.{exp-not-below}
 use Rattle.phred.specs.Phred.{phredToLnErrorProb}
 use Rattle.elementary_laws.specs.Fraction.{power}
-use Rattle.elementary_laws.specs.Claims.{expAtLevel, lnAtLevel, expMinusOneAtLevel, lnOnePlusAtPower, expMinusOneAtPower, named, claims}
+use Rattle.elementary_laws.specs.Claims.{expAtLevel, lnAtLevel, expMinusOneAtLevel, lnOnePlusAtPower, expMinusOneAtPower, named, ExpNeverBelow0, claims}
 
 exp-levels : T (everyFrom expAtLevel 0 94)
 unfolding add sub mul div neg lt le eq ne ofBits toBits ofInt headOf lostOf productErrorOf fmaSmallProductOf expRowOf seriesOf powerOfTwoOf scaledOf from0Of nearOf expOf everyFrom power phredToLnErrorProb expAtLevel
@@ -41,7 +42,11 @@ named-values : T (all named)
 unfolding add sub mul div neg lt le eq ne ofBits toBits ofInt headOf lostOf productErrorOf fmaSmallProductOf fmaLargeProductOf expRowOf seriesOf powerOfTwoOf scaledOf from0Of nearOf expOf betweenOf lnRowOf ratioOf normalOf reducedOf expansionOf joinedOf numberOf lnOnePlusOf lnOf correctionOf nearZeroOf shiftedOf expMinusOneOf same
 named-values = tt
 
--- every claim of SCOPE 8
+-- SCOPE 8.3, for every argument
+pub exp-never-below-0 : ExpNeverBelow0
+exp-never-below-0 = exp-not-below
+
+-- every claim of SCOPE 8 that is computed
 pub accuracy : T (all claims)
 accuracy =
     and-i (everyFrom expAtLevel 0 94) _ exp-levels

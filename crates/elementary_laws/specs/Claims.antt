@@ -1,8 +1,9 @@
 -- What SCOPE 8 asks of the four functions, claim by claim.
 use Prim.Native.Nat.{ℕ, _-_, _^_}
-use mathlib.Core.Bool.{Bool, _&&_}
+use mathlib.Core.Path.{_≡_}
+use mathlib.Core.Bool.{Bool, false, _&&_}
 use mathlib.Core.List.{List, [], _∷_}
-use lib.Ieee.{nan, neg}
+use lib.Ieee.{Float, nan, lt, neg}
 use lib.Ieee.Scale.{finite}
 use Rattle.float.specs.Ops.{plusZero, one, two, plusInfinity}
 use Rattle.float.specs.Claims.{same}
@@ -83,7 +84,11 @@ named =
     ∷ same (expMinusOneOf (neg plusInfinity)) (neg one)
     ∷ []
 
--- all of it: the 94 levels, k from 20 to 60, and the named values
+-- no argument gives an exp below 0
+abbrev pub ExpNeverBelow0 : Type 0
+ExpNeverBelow0 = (x : Float) → lt (expOf x) plusZero ≡ false
+
+-- all that is computed: the 94 levels, k from 20 to 60, and the named values
 abbrev pub claims : List Bool
 claims =
     everyFrom expAtLevel 0 94

@@ -50,6 +50,10 @@ two = bits 0x4000_0000_0000_0000
 abbrev pub three : Float
 three = bits 0x4008_0000_0000_0000
 
+-- 6
+abbrev pub six : Float
+six = bits 0x4018_0000_0000_0000
+
 -- 2^-52 = 2.220446049250313e-16: 1 is so far below the next f64
 abbrev pub epsilon : Float
 epsilon = bits 0x3cb0_0000_0000_0000

@@ -16,6 +16,7 @@ use Rattle.float.proofs.Sums.{add-not-below, add-not-minus-infinity}
 use Rattle.elementary.specs.Exp.{expOf}
 use Rattle.elementary.proofs.Signs.{exp-from-0, exp-not-below, ln-one-plus-not-below}
 use Rattle.phred.specs.Phred.{lnZero, log1pexpZero, minus37, plus18, plus33·3, log1pexpOf, lnSumExpGeneral, lnSumExp, allLnZero, startLane, lnSumExpFold, lnSumExpFrom, lnSumExpArray}
+use Rattle.phred.specs.Laws.{ZeroOnlyOfZeros}
 use Rattle.phred.proofs.Start.{start-inside}
 
 -- not below 0
@@ -126,7 +127,7 @@ zeros-join (suc k) (x ∷ xs) h z e =
     rw (w .0) (zeros-join k xs (le-of-suc-le-suc h) (rw (add-one k) (w .1)) e)
 
 -- -infinity nowhere else
-pub array-none : (xs : List Float) → ((j : ℕ) → T (fits binary64 (getD xs j nan))) → eq (lnSumExpArray xs) lnZero ≡ true → allLnZero xs ≡ true
+array-none : (xs : List Float) → ((j : ℕ) → T (fits binary64 (getD xs j nan))) → eq (lnSumExpArray xs) lnZero ≡ true → allLnZero xs ≡ true
 unfolding lnSumExpArray lnSumExpFrom
 array-none xs f h =
     test (allLnZero xs) (λ z. z)
@@ -141,6 +142,9 @@ unfolding eq neg div ofBits
 zero-itself = refl
 
 -- and there
-pub array-zero : (xs : List Float) → allLnZero xs ≡ true → eq (lnSumExpArray xs) lnZero ≡ true
+array-zero : (xs : List Float) → allLnZero xs ≡ true → eq (lnSumExpArray xs) lnZero ≡ true
 unfolding lnSumExpArray
 array-zero xs h = rw h zero-itself
+
+pub zero-only-of-zeros : (xs : List Float) → ZeroOnlyOfZeros xs
+zero-only-of-zeros xs = record { only = array-none xs; there = array-zero xs }

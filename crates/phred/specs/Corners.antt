@@ -4,12 +4,12 @@ use mathlib.Core.Bool.{Bool}
 use mathlib.Core.List.{List, [], _∷_}
 use lib.Dec.{eqb}
 use lib.Ieee.{nan, neg, isNan}
-use Rattle.float.specs.Ops.{_⊘_, whole, plusZero, one, plusInfinity}
+use Rattle.float.specs.Ops.{_⊘_, whole, plusZero, one, six, plusInfinity}
 use Rattle.float.specs.Claims.{same}
 use Rattle.words.specs.Claims.{everyFrom}
-use Rattle.phred.specs.Phred.{ten, log1pexpZero, lnZero, clamped, maxPhredAsLnError, thousandth, minus37, plus18, plus33·3, six, phredToLnErrorProb, phredToLnCorrectProb, lnProbToPhred, log1pexpOf, lnErrorProbTwoTrials, lnSumExpArray}
+use Rattle.phred.specs.Phred.{ten, log1pexpZero, lnZero, clamped, maxPhredAsLnError, thousandth, minus37, plus18, plus33·3, phredToLnErrorProb, phredToLnCorrectProb, lnProbToPhred, log1pexpOf, lnErrorProbTwoTrials, lnSumExpArray}
 
--- a level, made a logarithm and a level again, is itself, held to 2 .. 93
+-- a level, made a logarithm and a level again, is itself, clamped to 2 .. 93
 unfoldable pub comesBack : ℕ → Bool
 comesBack q = eqb (lnProbToPhred (phredToLnErrorProb q)) (clamped q)
 

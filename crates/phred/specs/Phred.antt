@@ -5,7 +5,7 @@ use mathlib.Core.Bool.{Bool, true, _&&_}
 use mathlib.Core.List.{List, [], _∷_, _++_}
 use lib.ListN.{getD, take, drop}
 use lib.Ieee.{Float, nan, lt, le, eq, neg, isNan}
-use Rattle.float.specs.Ops.{_⊕_, _⊖_, _⊗_, _⊘_, bits, whole, plusZero, one, epsilon, plusInfinity}
+use Rattle.float.specs.Ops.{_⊕_, _⊖_, _⊗_, _⊘_, bits, whole, plusZero, one, six, epsilon, plusInfinity}
 use Rattle.words.specs.Choice.{if_then_else_}
 use Rattle.float.specs.Methods.{absOf, floorOf}
 use Rattle.elementary.specs.Exp.{expOf}
@@ -120,12 +120,8 @@ lnSumExp a b =
     else if eq a b then a ⊕ log1pexpZero
     else lnSumExpGeneral a b
 
--- 6: so far above the other, an error's logarithm stands for both
-abbrev pub six : Float
-six = bits 0x4018_0000_0000_0000
-
 -- The logarithm of x + y - 4/3 · x · y, an error in either of two trials, of the logarithms of x and y, the larger first: that one where it is 6 or more
--- above the other, and else ln(exp(ln(x + y)) - exp(ln(4/3 · x · y))).
+-- above the other, since it then stands for both, and else ln(exp(ln(x + y)) - exp(ln(4/3 · x · y))).
 unfoldable pub twoTrials : Float → Float → Float
 twoTrials larger smaller =
     if le six (larger ⊖ smaller) then larger
