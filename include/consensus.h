@@ -1,17 +1,17 @@
 /* consensus.h: the functions of libconsensus, for C99 and C++.
  *
- * Every function is proved to meet the contract that stands above it (docs/PROOFS.md, 'What C and Rust link'). It returns for
- * every argument, reads the bytes of its inputs alone, writes into OUT alone, keeps nothing between calls and takes no lock, so
- * any number of threads may call it. What is asked of the caller, and not checked:
+ * Every function is proved to meet the contract above it (docs/PROOFS.md, 'What C and Rust link'). It returns for every argument,
+ * reads only its inputs, writes only into OUT, keeps nothing between calls and takes no lock, so any number of threads may call
+ * it. The caller must ensure, without any check here, that
  *
- *   - a pointer leads to LENGTH elements at least; where LENGTH is 0 it may be any pointer but NULL;
- *   - OUT overlaps no input, and nobody else writes to either while the call runs;
+ *   - a pointer points to at least LENGTH elements; where LENGTH is 0 it may be any pointer except NULL;
+ *   - OUT overlaps no input, and nothing else writes to either while the call runs;
  *   - the floating point unit rounds to nearest and keeps subnormal numbers, as it does when a program starts;
- *   - 64 KiB of stack are free (27 KB were the most that was measured, in consensus_records);
- *   - x86-64 with the System V calling convention (Linux).
+ *   - 64 KiB of stack are free (the most that was measured is 27 KB, in consensus_records);
+ *   - the platform is x86-64 with the System V calling convention (Linux).
  *
- * What does not fit OUT is not written at all. Bytes of OUT behind an answer stay as they were. Numbers in answers have their
- * low byte first. */
+ * An answer that does not fit OUT is not written at all. Bytes of OUT behind an answer are unchanged. Numbers in answers have
+ * their low byte first. */
 #ifndef CONSENSUS_H
 #define CONSENSUS_H
 
@@ -25,40 +25,41 @@ extern "C" {
 /* The conditions by which a file or a string set is refused (docs/FORMAT.md, 'What is refused'). */
 enum consensus_refusal {
     CONSENSUS_TOO_LONG = 1,          /* more than 65,536 bytes */
-    CONSENSUS_CUT_OFF = 2,           /* truncated, or bytes left over */
+    CONSENSUS_CUT_OFF = 2,           /* truncated, or trailing bytes */
     CONSENSUS_BAD_SETTINGS = 3,      /* not three settings, or a tie rule above 1 */
     CONSENSUS_ABSENT_QUALITY = 4,    /* a quality of 255 */
     CONSENSUS_NO_STRINGS = 5,
     CONSENSUS_LENGTHS_DIFFER = 6,
     CONSENSUS_NOT_ASCII = 7,         /* a byte of 128 or more */
-    CONSENSUS_UNLIKE_FIRST = 8,      /* a non-DNA byte unlike the first string's */
+    CONSENSUS_UNLIKE_FIRST = 8,      /* a non-DNA byte that differs from the first string's */
     CONSENSUS_MIXED = 9,             /* DNA and non-DNA in one column */
     CONSENSUS_BUFFER_TOO_SHORT = 10,
-    CONSENSUS_FULL_BUILDER = 11      /* 4,294,967,295 bases are counted */
+    CONSENSUS_FULL_BUILDER = 11      /* a base, where 4,294,967,295 are already counted */
 };
 
 /* The tie rules, as files and scripts write them. */
 enum consensus_tie_rule { CONSENSUS_FGBIO_COMPAT = 0, CONSENSUS_ULP_RELATIVE = 1 };
 
-/* A reply that is a refusal's number below 256, and else 256 + a length. */
+/* For a reply that is the number of a refusal, below 256, or 256 + a length. */
 #define CONSENSUS_IS_REFUSED(reply) ((reply) < 256)
 #define CONSENSUS_LENGTH(reply) ((reply) - 256)
 
 /* ---- column files ------------------------------------------------------------------------------------------------------ */
 
-/* Room that holds every listing. */
+/* A buffer of this size holds every listing. */
 #define CONSENSUS_LISTING_ROOM 2400000
 
-/* The listing of a column file (docs/FORMAT.md) as text in OUT. Reply: below 256 the refusal, 10 where OUT is too short; else
- * 256 + the text's length. The text has no 0 at its end. */
+/* The listing of a column file (docs/FORMAT.md) as text in OUT. Reply: below 256 the number of the refusal, 10 where OUT is too
+ * short; else 256 + the text's length. The text does not end with a 0. */
 uint64_t consensus_listing(const uint8_t *file, size_t file_length, uint8_t *out, size_t out_length);
 
 /* The same as the program `listing` prints it: a refused file gives the text "refused N\n". Reply: the text's length, or 0 where
  * OUT is too short. */
 uint64_t consensus_list(const uint8_t *file, size_t file_length, uint8_t *out, size_t out_length);
 
-/* The same as numbers, CONSENSUS_RECORD bytes for each column: base, quality, two zeros, then depth, the counts of A, C, G and T, and
- * how many observations were ignored, in 4 bytes each. Replies as consensus_listing; CONSENSUS_RECORDS_ROOM holds those of every file. */
+/* The same as numbers, CONSENSUS_RECORD bytes for each column: base, quality, two zeros, then depth, the counts of A, C, G and T,
+ * and the number of ignored observations, in 4 bytes each. Replies as consensus_listing does. A buffer of CONSENSUS_RECORDS_ROOM
+ * holds the records of every file. */
 #define CONSENSUS_RECORD 28
 #define CONSENSUS_RECORDS_ROOM (28 * 32764)
 uint64_t consensus_records(const uint8_t *file, size_t file_length, uint8_t *out, size_t out_length);
@@ -73,29 +74,29 @@ enum consensus_umi_function {
     CONSENSUS_DUPLEX = 3
 };
 
-/* Rooms that always suffice. */
+/* Buffers of these sizes hold every answer. */
 #define CONSENSUS_UMI_ROOM 255
 #define CONSENSUS_UMI_CALLER_ROOM (255 + 80)
 
-/* A reply of 256 or more, taken apart: the string's length; whether a string differs from it (of CONSENSUS_DUPLEX: /A's flag); /B's
- * flag. */
+/* Take a reply of 256 or more apart: the string's length; whether a string differs from it (for CONSENSUS_DUPLEX: /A's flag);
+ * /B's flag. */
 #define CONSENSUS_UMI_LENGTH(reply) (((reply) - 256) >> 2)
 #define CONSENSUS_UMI_HAD_ERRORS(reply) ((int)((reply) & 1))
 #define CONSENSUS_UMI_HAD_ERRORS_B(reply) ((int)((reply) >> 1 & 1))
 
 /* The consensus of a string set (a count byte; each string after its length byte) at the default rates 90 and 90 and quality
- * 20. Reply: below 256 the refusal, 10 where OUT is too short, 0 where WHICH is no function; else the string stands in OUT, and
- * the macros above take the reply apart. */
+ * 20. Reply: below 256 the number of the refusal, 10 where OUT is too short, 0 where WHICH is no function; else OUT has the
+ * string, and the macros above take the reply apart. */
 uint64_t consensus_umi(uint8_t which, const uint8_t *set, size_t set_length, uint8_t *out, size_t out_length);
 
-/* The same by a new caller of these rates and this quality; WHICH is 0, 1 or 3. Behind the string OUT gets the 80 bytes of the
- * caller's builder afterwards, as in a report (below) its first 80. */
+/* The same by a new caller with these rates and this quality; WHICH is 0, 1 or 3. After the string OUT gets the 80 bytes of the
+ * caller's builder afterwards, in the form of the first 80 bytes of a report (below). */
 uint64_t consensus_umi_caller(uint8_t pre, uint8_t post, uint8_t quality, uint8_t which, const uint8_t *set, size_t set_length,
                               uint8_t *out, size_t out_length);
 
-/* Several sets by one caller. SETS holds them one after another, each after its length in four bytes. For each set OUT gets the
- * reply of consensus_umi_caller in eight bytes, the string (none where refused) and the builder's 80 bytes. Reply: the number
- * of bytes; 0, and nothing written, where a length reaches past the end, OUT is too short or WHICH is not 0, 1 or 3. */
+/* Several sets in turn by one caller. SETS holds them one after another, each after its length in four bytes. For each set OUT
+ * gets the reply of consensus_umi_caller in eight bytes, the string (none where refused) and the builder's 80 bytes. Reply: the
+ * number of bytes; 0, and nothing written, where a length reaches past the end, OUT is too short or WHICH is not 0, 1 or 3. */
 uint64_t consensus_umi_sets(uint8_t pre, uint8_t post, uint8_t quality, uint8_t which, const uint8_t *sets, size_t sets_length,
                             uint8_t *out, size_t out_length);
 
@@ -122,18 +123,18 @@ double consensus_exp_m1(double x);
 
 /* A script is a list of events of three bytes: 0 base quality: add; 1 _ _: reset; 2 rule _: set the tie rule; 3 _ _: report.
  *
- * A report has 91 bytes: four likelihoods and four compensations (bit patterns of 8 bytes, every NaN as 0x7ff8000000000000), four
- * counts of 4 bytes; the unanimous shortcut (1 or 0 whether it replies, base, quality), the multibase shortcut (the same),
- * call_full (base, quality), call (base, quality); how many events were refused so far, at most 255. */
+ * A report has 91 bytes: four likelihoods and four compensations (bit patterns of 8 bytes, every NaN as 0x7ff8000000000000); four
+ * counts of 4 bytes; the unanimous shortcut (1 if it replies, else 0; base; quality); the multibase shortcut (the same); call_full
+ * (base, quality); call (base, quality); the number of events refused so far, at most 255. */
 #define CONSENSUS_REPORT 91
 #define CONSENSUS_STATE 80
 
 /* The reports that a script asks for, on a new builder at these rates, under this rule. Reply: the number of bytes; 0, and
- * nothing written, where OUT is too short, the rule is above 1 or the script is none. */
+ * nothing written, where OUT is too short, the rule is above 1 or SCRIPT is not a script. */
 uint64_t consensus_history(uint8_t pre, uint8_t post, uint8_t rule, const uint8_t *script, size_t script_length, uint8_t *out,
                            size_t out_length);
 
-/* The same answers by the functions that take the builder and its tables by value, and by those that borrow the builder. */
+/* The same through the functions that take the builder and its tables by value, and through those that borrow the builder. */
 uint64_t consensus_history_by_value(uint8_t pre, uint8_t post, uint8_t rule, const uint8_t *script, size_t script_length,
                                     uint8_t *out, size_t out_length);
 uint64_t consensus_history_lent(uint8_t pre, uint8_t post, uint8_t rule, const uint8_t *script, size_t script_length,
@@ -143,24 +144,24 @@ uint64_t consensus_history_lent(uint8_t pre, uint8_t post, uint8_t rule, const u
 uint64_t consensus_builder(uint8_t pre, uint8_t post, uint8_t rule, const uint8_t *state, size_t state_length,
                            const uint8_t *script, size_t script_length, uint8_t *out, size_t out_length);
 
-/* Of a builder of 80 given bytes: contributions, observations_for_base of the bytes 0 to 255, the counts of A, C, G and T; 4 bytes
- * each. Reply: 1,044, or 0, and nothing written, where the state is not 80 bytes or OUT is too short. */
+/* For a builder of 80 given bytes: contributions, observations_for_base of the bytes 0 to 255, the counts of A, C, G and T, in 4
+ * bytes each. Reply: 1,044; or 0, and nothing written, where the state is not 80 bytes or OUT is too short. */
 #define CONSENSUS_OBSERVATIONS_ROOM 1044
 uint64_t consensus_observations(const uint8_t *state, size_t state_length, uint8_t *out, size_t out_length);
 
 /* The tables of two rates: correct, error_per_alt, thresholds, cerr_min, each as 94 bit patterns of 8 bytes, then cap in 8 bytes.
- * Reply: 3,016, or 0 where OUT is too short. */
+ * Reply: 3,016; or 0, and nothing written, where OUT is too short. */
 #define CONSENSUS_TABLES_ROOM 3016
 uint64_t consensus_tables(uint8_t pre, uint8_t post, uint8_t *out, size_t out_length);
 
 /* ---- for timing -------------------------------------------------------------------------------------------------------- */
 
 /* Calls every column of a file TIMES times with tables built once. Reply: the sum of all bases and qualities, modulo 2^64; 0 for a
- * file that conditions 1 to 4 refuse. Its strings are not asked. */
+ * file that is refused by conditions 1 to 4. Its strings are not tested. */
 uint64_t consensus_calls(const uint8_t *file, size_t file_length, uint32_t times);
 
-/* Runs a script TIMES times, each on a new builder. In such a script event 3 asks for call and event 4 for call_full. Reply: the sum of
- * their bases and qualities, modulo 2^64; 0 where the rule is above 1 or the script is none. */
+/* Runs a script TIMES times, each time on a new builder. In such a script event 3 is call and event 4 is call_full. Reply: the sum
+ * of their bases and qualities, modulo 2^64; 0 where the rule is above 1 or SCRIPT is not such a script. */
 uint64_t consensus_history_times(uint8_t pre, uint8_t post, uint8_t rule, const uint8_t *script, size_t script_length,
                                  uint32_t times);
 
