@@ -1,5 +1,4 @@
 -- exp: with x = (128·k + j)·ln 2/128 + r, k and j whole, j below 128 and r at most ln 2/256 either way, exp x = 2^k · 2^(j/128) · exp r.
---
 use Prim.Native.Nat.{ℕ, _+_, _-_, _*_, _/_, _%_, _^_}
 use mathlib.Core.Bool.{Bool, _&&_}
 use lib.Dec.{leb, ltb}
@@ -79,8 +78,8 @@ raisedOf m t =
     let h = bits (rowAt m .head + powerAt m * 2 ^ 52 - 1100 * 2 ^ 52) in
     fmaSmallProductOf h t h
 
--- exp x below the limit of expOf: where k is from -900 to 899 all numbers are normal, and 2^k goes into the exponent at once. No such result is below 0: the
--- test only shows it.
+-- exp x below the limit of expOf: where k is from -900 to 899 all numbers are normal, and 2^k goes into the exponent at once. With the test no
+-- result is below 0; no argument is known that needs it.
 unfoldable pub nearOf : Float → Float
 nearOf x =
     let m = stepsOf x in

@@ -8,12 +8,12 @@ use Rattle.elementary.specs.Fma.{fmaSmallProductOf, fmaLargeProductOf}
 use Rattle.elementary.specs.Exp.{expOf}
 
 -- the number just above 1
-abbrev pub up : Float
-up = bits 0x3ff0_0000_0000_0001
+abbrev pub aboveOne : Float
+aboveOne = bits 0x3ff0_0000_0000_0001
 
 -- the number just below 1
-abbrev pub down : Float
-down = bits 0x3fef_ffff_ffff_ffff
+abbrev pub belowOne : Float
+belowOne = bits 0x3fef_ffff_ffff_ffff
 
 -- e such that exp(y) - 1 is y - (e·y - y²/2), for h = y/2, hy = y²/2 and the series r: a rational form of exp
 abbrev pub endOf : Float → Float → Float → Float → Float
@@ -45,8 +45,8 @@ exactOf y a =
 -- by a little, and no operation changes the order: so where these two give the same, that is meant to be it (argued, not proved; the result is what is said here).
 unfoldable pub nearZeroOf : Float → Correction → Float
 nearZeroOf x a =
-    let y = x ⊖ (a .low ⊗ (x ⊗ up) ⊖ a .half) in
-    if eq y (x ⊖ (a .high ⊗ (x ⊗ down) ⊖ a .half)) then y
+    let y = x ⊖ (a .low ⊗ (x ⊗ aboveOne) ⊖ a .half) in
+    if eq y (x ⊖ (a .high ⊗ (x ⊗ belowOne) ⊖ a .half)) then y
     else x ⊖ fmaSmallProductOf (exactOf x a) x (neg (a .half))
 
 -- (y - (s - y²/2))/2 - 1/2
@@ -56,8 +56,8 @@ halvedOf y s hy = half ⊗ (y ⊖ (s ⊖ hy)) ⊖ half
 -- the same at y = x + ln 2, where c is what y lost when it was rounded
 unfoldable pub shiftedOf : Float → Float → Correction → Float
 shiftedOf y c a =
-    let r = halvedOf y ((a .low ⊖ c) ⊗ (y ⊗ up) ⊖ c) (a .half) in
-    if eq r (halvedOf y ((a .high ⊖ c) ⊗ (y ⊗ down) ⊖ c) (a .half)) then r
+    let r = halvedOf y ((a .low ⊖ c) ⊗ (y ⊗ aboveOne) ⊖ c) (a .half) in
+    if eq r (halvedOf y ((a .high ⊖ c) ⊗ (y ⊗ belowOne) ⊖ c) (a .half)) then r
     else halvedOf y (fmaLargeProductOf (exactOf y a ⊖ c) y (neg c)) (a .half)
 
 -- exp(x) - 1, the limits being ½·ln 2 and 3/2·ln 2 to few digits, and ln 2 in two parts

@@ -79,7 +79,7 @@ numberOf x =
     else if eq x (neg one) then neg one ⊘ plusZero
     else plusZero ⊘ plusZero
 
--- ln(1 + x). The 0 is never given: with this test no x from 0 on has a result below 0.
+-- ln(1 + x). With this test no x from 0 on has a result below 0; no argument is known that needs it.
 unfoldable pub lnOnePlusOf : Float → Float
 lnOnePlusOf x =
     let y = numberOf x in
