@@ -3,7 +3,8 @@ ghost use mathlib.Core.Path.{_≡_};
 ghost use Prim.Native.Nat.{_<_};
 ghost use Rattle.observation_windows.specs.Windows.{windowOf, windowEntry, windowsOf};
 
-// The one logarithm amid the other.
+// e e e a e e e e: the one logarithm amid the other. From place 3 - k on lie the values of the four lanes
+// where lane k was observed, so that no branch chooses them.
 pub fn window_of(correct: f64, error_per_alt: f64) -> [f64; 8]
     ensures { λ r. ⌜ r ≡ windowOf correct «error_per_alt» ⌝ }
 {

@@ -36,7 +36,7 @@ laneOfByte x =
 abbrev pub isBase : ℕ → Bool
 isBase x = not (eqb (laneOfByte x) noLane)
 
--- the lane by two bits of a byte, which are 0, 1, 3 and 2 in A, C, G and T of either case: that of a base, and of any other byte the one of the base with its bits
+-- the lane of the base that has two bits of a byte: they are 0, 1, 3 and 2 in A, C, G and T of either case
 unfoldable pub laneByBits : ℕ → ℕ
 laneByBits x =
     let bits = x / 2 % 4 in

@@ -16,8 +16,7 @@ pub fn no_sums() -> LaneSums
     }
 }
 
-// A byte that is no base leaves the sums as they are. What the four lanes are moved by lies side by side
-// in the window, so that no branch chooses it.
+// A byte that is no base leaves the sums as they are.
 pub fn add_base(sums: LaneSums, window: &[f64; 8], byte: u8) -> LaneSums
     ensures { λ r. ⌜ r ≡ summedBy (now (window .entry)) byte sums ⌝ }
 {
