@@ -8,7 +8,7 @@ use native.Mathlib.Omega.{arith}
 use lib.Dec.{leb, eqb}
 use lib.ListN.{getD, getD-replicate, length}
 use lib.Ieee.{nan}
-use borrow.Author.Tests.{eqb-false, leb-false}
+use borrow.Author.Tests.{leb-false}
 use Rattle.float.specs.Ops.{plusZero}
 use Rattle.words.specs.Choice.{if_then_else_}
 use Rattle.words.proofs.Cases.{choice}
@@ -18,7 +18,7 @@ use Rattle.rate_tables.specs.declared.adjusted.AdjustedProbabilityTables.{Adjus
 use Rattle.rate_tables.specs.Adjusted.{adjustedTables}
 use Rattle.tie_rules.specs.declared.tie_rule.TieRule.{TieRule}
 use Rattle.tie_rules.specs.Lanes.{lane, noLane, laneOfByte, counted}
-use Rattle.tie_rules.proofs.Lanes.{lanes-at, lane-of-byte}
+use Rattle.tie_rules.proofs.Lanes.{lanes-at, in-lane}
 use Rattle.base_builder.specs.declared.builder.ConsensusBaseBuilder.{ConsensusBaseBuilder}
 use Rattle.base_builder.specs.Observation.{movedBy, valueOf, countOf}
 use Rattle.base_builder.specs.Builder.{total, cleared, newAt, withTieRule, resetOf, sumOf, observed, entryOf, isFull, addedBy, added, fullCount}
@@ -111,9 +111,7 @@ module _ (t : AdjustedProbabilityTables) where
       (together t (eqb (laneOfByte base) noLane || leb fullCount (length os)) os _ b _ had
       (λ e.
       let n = neither (eqb (laneOfByte base) noLane) (leb fullCount (length os)) e in
-      let l = lane-of-byte base in
-      let d = eqb-false (laneOfByte base) 4 (n .0) in
-      observed-holds t os b had (laneOfByte base) q (omega arith) (leb-false fullCount (length os) (n .1))))
+      observed-holds t os b had (laneOfByte base) q (in-lane base (n .0)) (leb-false fullCount (length os) (n .1))))
 
   run-holds : (es : List Event) (os : List Observation) (b : ConsensusBaseBuilder) → Holds t os b → Holds t (countedSince os es) (run t es b)
   unfolding countedSince run step resetOf withTieRule

@@ -5,16 +5,13 @@ ghost use Rattle.elementary.specs.ExpMinusOne.{endOf, correctionOf, exac
 use crate::exponential::exp;
 use crate::fma::fma_large_product;
 use crate::fma::fma_small_product;
+use crate::ln_one_plus::LN_2_HI;
+use crate::ln_one_plus::LN_2_LO;
 
 // 1/2 * ln 2 and 3/2 * ln 2, rounded to few digits.
 const HALF_LN_2: f64 = 0.3465735912322998;
 
 const THREE_HALVES_LN_2: f64 = 1.0397205352783203;
-
-// ln 2 in two parts.
-const LN_2_HI: f64 = 0.6931471803691238;
-
-const LN_2_LO: f64 = 1.9082149292705877e-10;
 
 // The series of 6 / y * ((exp(y) + 1) / (exp(y) - 1) - 2 / y) in y^2 / 2, from the second term on.
 const Q1: f64 = -0.03333333333333313;

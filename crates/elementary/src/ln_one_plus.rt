@@ -21,9 +21,9 @@ const HIGH: f64 = 0.4142136573791504;
 const HIGHER: f64 = 1.75;
 
 // ln 2 in two parts: the first has so few digits that its product with k is exact.
-const LN_2_HI: f64 = 0.6931471803691238;
+pub(crate) const LN_2_HI: f64 = 0.6931471803691238;
 
-const LN_2_LO: f64 = 1.9082149292705877e-10;
+pub(crate) const LN_2_LO: f64 = 1.9082149292705877e-10;
 
 // The series of ln((1 + s) / (1 - s)) / s - 2 in s^2.
 const L1: f64 = 0.6666666666666735;

@@ -5,6 +5,9 @@ ghost use lib.Ieee.Scale.{finite};
 ghost use Rattle.float.specs.Ops.{bits};
 ghost use Rattle.float.specs.Methods.{absOf, maxOf, betweenOf, floorOf};
 
+// 2^-52: 1 is so far below the next f64.
+pub const EPSILON: f64 = 2.220446049250313e-16;
+
 // Whether x is a NaN: nothing else differs from itself.
 pub fn is_nan(x: f64) -> bool
     ensures { λ r. ⌜ r ≡ isNan x ⌝ }

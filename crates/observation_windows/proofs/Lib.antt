@@ -1,3 +1,2 @@
-pub mod Bases
 pub mod Turns
 pub mod Laws

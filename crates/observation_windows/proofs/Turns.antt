@@ -2,19 +2,19 @@
 use mathlib.Core.Path.{_≡_, refl, sym, _∙_, ap}
 use mathlib.Core.Bool.{true, false, or-true}
 use mathlib.Core.List.{List, [], _∷_}
-use Prim.Native.Nat.{ℕ, zero, suc, _+_, _-_, _≤_, _<_}
+use Prim.Native.Nat.{ℕ, suc, _+_, _-_, _≤_, _<_}
 use native.Mathlib.Numerals.{add-one}
 use native.Mathlib.Omega.{arith}
-use borrow.Author.Tests.{eqb-false, le-leb, lt-leb}
+use borrow.Author.Tests.{le-leb, lt-leb}
 use lib.Dec.{eqb}
 use lib.ListN.{length, getD, drop, length-drop}
 use lib.Seq.{drop-cons}
 use lib.Ieee.{Float}
-use Rattle.tie_rules.specs.Lanes.{lanes, noLane, laneOfByte, counted}
-use Rattle.tie_rules.proofs.Lanes.{lane-of-byte}
+use Rattle.tie_rules.specs.Lanes.{noLane, laneOfByte}
+use Rattle.tie_rules.proofs.Lanes.{in-lane}
 use Rattle.base_builder.specs.declared.builder.ConsensusBaseBuilder.{ConsensusBaseBuilder}
-use Rattle.base_builder.specs.Observation.{countOf}
 use Rattle.base_builder.specs.Builder.{total, isFull, fullCount}
+use Rattle.base_builder.proofs.Totals.{total-more}
 use Rattle.observation_windows.specs.Windows.{windowAt, windowObserved, windowAdded, allAdded}
 
 -- ---- bytes two by two
@@ -36,15 +36,6 @@ few rows b (x ∷ []) h = refl
 few rows b (x ∷ y ∷ s) h = absurd (omega arith)
 
 -- ---- how many more can be counted
-
--- one more is counted
-one-more : (ns : List ℕ) (k : ℕ) → k < 4 → total ns < fullCount → total (lanes (λ i. countOf (counted ns i) k i)) ≡ total ns + 1
-unfolding total lanes countOf
-one-more ns zero h t = omega arith
-one-more ns (suc zero) h t = omega arith
-one-more ns (suc (suc zero)) h t = omega arith
-one-more ns (suc (suc (suc zero))) h t = omega arith
-one-more ns (suc (suc (suc (suc k)))) h t = absurd (omega arith)
 
 -- a full builder stays as it is
 full-stays : (rows : List Float) (b : ConsensusBaseBuilder) (s : List ℕ) → isFull b ≡ true → allAdded rows b s ≡ b
@@ -82,10 +73,7 @@ module _ (rows : List Float) (s : List ℕ) (i : ℕ) (b : ConsensusBaseBuilder)
         (o : let k = laneOfByte (getD s i 0) in after ≡ windowObserved rows (windowAt (getD s (i + 1) 0) k) k b) where
       pub room-less : left - 1 ≡ fullCount - total (after .observations)
       unfolding windowObserved
-      room-less =
-          let l = lane-of-byte (getD s i 0) in
-          let d = eqb-false (laneOfByte (getD s i 0)) 4 n in
-          rw o (omega (arith, one-more (b .observations) (laneOfByte (getD s i 0)) (omega arith) (omega arith)))
+      room-less = rw o (omega (arith, total-more (b .observations) (laneOfByte (getD s i 0)) (in-lane (getD s i 0) n) (omega arith)))
 
       pub observed : i + 1 < length s → allAdded rows after (drop (i + 2) s) ≡ allAdded rows b (drop i s)
       unfolding windowAdded isFull

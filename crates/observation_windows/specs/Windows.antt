@@ -11,19 +11,21 @@ use Rattle.tie_rules.specs.Lanes.{noLane, laneOfByte}
 use Rattle.base_builder.specs.declared.builder.ConsensusBaseBuilder.{ConsensusBaseBuilder}
 use Rattle.base_builder.specs.Builder.{observedBy, entryOf, isFull}
 
--- ---- the table
+-- ---- windows
 
--- the entry at a place: row i / 8 is e e e a e e e e, with a the first table's entry and e the second's
+-- the one logarithm amid the other: from place 3 - k on stand the values of the four lanes where lane k was observed
+unfoldable pub windowOf : Float → Float → List Float
+windowOf correct error = error ∷ error ∷ error ∷ correct ∷ error ∷ error ∷ error ∷ error ∷ []
+
+-- entry i of the table of windows, whose row q is the window of entry q of two tables
 unfoldable pub windowEntry : List Float → List Float → ℕ → Float
-windowEntry correct error i =
-    if eqb (i % 8) 3 then getD correct (i / 8) nan
-    else getD error (i / 8) nan
+windowEntry correct error i = getD (windowOf (getD correct (i / 8) nan) (getD error (i / 8) nan)) (i % 8) nan
 
 -- a row for each of the 94 qualities
 unfoldable pub windowsOf : List Float → List Float → List Float
 windowsOf correct error = listed (windowEntry correct error) 0 752
 
--- where the window of lane k starts in the row of a quality: lane k, k places on, is at the row's place 3
+-- where the values of the lanes start in the row of a quality, where lane k was observed
 abbrev pub windowAt : ℕ → ℕ → ℕ
 windowAt q k = 8 * entryOf q + (3 - k)
 

@@ -1,10 +1,7 @@
 // Observations, one after another. The loop does not branch on the lane, and has no index into the
 // builder that is not a constant: so lanes, compensations and counts stay in registers.
 ghost use mathlib.Core.Path.{_≡_};
-ghost use mathlib.Core.Bool.{false, not};
 ghost use Prim.Native.Nat.{_-_, _<_};
-ghost use lib.Dec.{eqb};
-ghost use Rattle.tie_rules.specs.Lanes.{noLane, laneOfByte};
 ghost use Rattle.base_builder.specs.Builder.{total as totalOf, fullCount};
 ghost use Rattle.observation_windows.specs.Windows.{windowObserved, allAdded};
 use base_builder::ConsensusBaseBuilder;
@@ -12,29 +9,8 @@ use base_builder::entry;
 use base_builder::observed;
 use base_builder::total;
 use phred::PhredScore;
-
-// The same answer for all bases, which becomes one test of a bit.
-fn is_base(base: u8) -> bool
-    ensures { λ r. ⌜ r ≡ not (eqb (laneOfByte base) noLane) ⌝ }
-{
-    match base {
-        b'A' | b'C' | b'G' | b'T' | b'a' | b'c' | b'g' | b't' => true,
-        _ => false,
-    }
-}
-
-// The lane of a base by two bits of its byte, with no jump: they are 0, 1, 3 and 2 for A, C, G and T.
-fn lane_of_base(base: u8) -> usize
-    requires { ⌜ eqb (laneOfByte base) noLane ≡ false ⌝ }
-    ensures { λ r. ⌜ r ≡ laneOfByte base ⌝ }
-    ensures { λ r. ⌜ r < 4 ⌝ }
-{
-    let bits = base / 2 % 4;
-    if bits < 2 {
-        return bits as usize;
-    }
-    (5 - bits) as usize
-}
+use tie_rules::is_base;
+use tie_rules::lane_by_bits;
 
 // How many bases more can be counted.
 fn room(observations: [u32; 4]) -> u64
@@ -80,7 +56,7 @@ pub fn add_observations(
             if left == 0 {
                 return after;
             }
-            let k = lane_of_base(base);
+            let k = lane_by_bits(base);
             let q = entry(PhredScore(observations[i + 1]));
             after = step(after, rows, 8 * q + (3 - k), k);
             left -= 1;

@@ -4,4 +4,5 @@ mod adding;
 mod table;
 
 pub use adding::add_observations;
+pub use table::window_of;
 pub use table::windows;

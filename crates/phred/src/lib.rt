@@ -13,7 +13,7 @@ pub use four_lanes::ln_sum_exp_lanes;
 // ln 10 and ln 2
 const LN_10: f64 = 2.302585092994046;
 
-const LN_TWO: f64 = 0.6931471805599453;
+pub const LN_TWO: f64 = 0.6931471805599453;
 
 // log1pexp(0), which ln_sum_exp adds where both operands are equal
 const LOG1PEXP_ZERO: f64 = LN_TWO;
@@ -39,9 +39,6 @@ const PHRED_PRECISION: f64 = 0.001;
 
 // phred_to_ln_error_prob(MAX_PHRED)
 const MAX_PHRED_AS_LN_ERROR: f64 = -(MAX_PHRED as f64) * LN_10 / 10.0;
-
-// 2^-52
-const EPSILON: f64 = 2.220446049250313e-16;
 
 // A level. A type of its own, so that none can stand where a logarithm is expected.
 pub struct PhredScore(pub u8);
@@ -126,7 +123,7 @@ pub fn ln_a_minus_b(a: f64, b: f64) -> f64
     if b == -1.0 / 0.0 {
         return a;
     }
-    if float::abs(a - b) < EPSILON {
+    if float::abs(a - b) < float::EPSILON {
         return -1.0 / 0.0;
     }
     if a < b {

@@ -6,11 +6,12 @@ use Prim.Native.Nat.{ℕ, zero, suc, _+_, _≤_, _<_}
 use native.Mathlib.Nat.{eq-or-lt-of-le, le-of-suc-le-suc, not-suc-le-zero}
 use native.Mathlib.Numerals.{add-one}
 use native.Mathlib.Omega.{arith}
+use borrow.Author.Tests.{eqb-true, eqb-false, not-true}
 use lib.Dec.{eqb}
 use lib.ListN.{getD}
 use Rattle.words.specs.Choice.{if_then_else_}
 use Rattle.words.proofs.Cases.{both, and-false}
-use Rattle.tie_rules.specs.Lanes.{lanes, laneOfByte}
+use Rattle.tie_rules.specs.Lanes.{lanes, noLane, laneOfByte, isBase, laneByBits}
 use Rattle.words.specs.Claims.{allBelow}
 
 -- one more lane of which the claim holds
@@ -44,16 +45,21 @@ unfolding allBelow
 below-all zero p f = refl
 below-all (suc n) p f = rw (below-all n p (λ j h. f j (omega arith))) (f n (omega arith))
 
+-- what holds of the four lanes
+pub four : (P : ℕ → Type 0) → P 0 → P 1 → P 2 → P 3 → (i : ℕ) → i < 4 → P i
+four P a c g t zero h = a
+four P a c g t (suc zero) h = c
+four P a c g t (suc (suc zero)) h = g
+four P a c g t (suc (suc (suc zero))) h = t
+four P a c g t (suc (suc (suc (suc i)))) h = absurd (omega arith)
+
 -- what lane i of four holds
 pub lanes-at : {A : Type 0} (f : ℕ → A) (d : A) (i : ℕ) → i < 4 → getD (lanes f) i d ≡ f i
 unfolding lanes
-lanes-at f d zero h = refl
-lanes-at f d (suc zero) h = refl
-lanes-at f d (suc (suc zero)) h = refl
-lanes-at f d (suc (suc (suc zero))) h = refl
-lanes-at f d (suc (suc (suc (suc i)))) h = absurd (omega arith)
+lanes-at f d = four (λ (i : ℕ). getD (lanes f) i d ≡ f i) refl refl refl refl
 
--- a byte that has a lane has one of the four
+-- ---- the lane of a byte
+
 first-of : (a b c d : Bool) → (if a then 0 else if b then 1 else if c then 2 else if d then 3 else 4) ≤ 4
 first-of true b c d = omega arith
 first-of false true c d = omega arith
@@ -61,6 +67,24 @@ first-of false false true d = omega arith
 first-of false false false true = omega arith
 first-of false false false false = omega arith
 
-pub lane-of-byte : (x : ℕ) → laneOfByte x ≤ 4
+-- it is one of the four, or none
+lane-of-byte : (x : ℕ) → laneOfByte x ≤ 4
 unfolding laneOfByte
 lane-of-byte x = first-of (eqb x 65 || eqb x 97) (eqb x 67 || eqb x 99) (eqb x 71 || eqb x 103) (eqb x 84 || eqb x 116)
+
+-- a byte that has a lane has one of the four
+pub in-lane : (x : ℕ) → eqb (laneOfByte x) noLane ≡ false → laneOfByte x < 4
+in-lane x t = omega (arith, lane-of-byte x, eqb-false (laneOfByte x) noLane t)
+
+-- a byte has no lane, or the one that its bits say
+bits-right : ℕ → Bool
+bits-right x = eqb (laneOfByte x) noLane || eqb (laneByBits x) (laneOfByte x)
+
+-- computed for each byte
+all-right : allBelow 256 bits-right ≡ true
+unfolding allBelow bits-right laneOfByte laneByBits
+all-right = refl
+
+pub lane-bits : (x : ℕ) → x < 256 → isBase x ≡ true → laneByBits x ≡ laneOfByte x
+unfolding bits-right
+lane-bits x h n = eqb-true (laneByBits x) (laneOfByte x) (rw (not-true (eqb (laneOfByte x) noLane) n) at (below-at 256 bits-right x all-right h))

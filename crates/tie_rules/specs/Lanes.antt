@@ -1,8 +1,8 @@
 -- Four lanes, one for each of A, C, G and T, in this order.
-use Prim.Native.Nat.{ℕ, zero, suc}
-use mathlib.Core.Bool.{Bool, true, _&&_, _||_}
+use Prim.Native.Nat.{ℕ, _-_, _/_, _%_}
+use mathlib.Core.Bool.{Bool, not, _||_}
 use mathlib.Core.List.{List, [], _∷_}
-use lib.Dec.{eqb}
+use lib.Dec.{ltb, eqb}
 use lib.ListN.{getD}
 use lib.Ieee.{Float, nan}
 use Rattle.words.specs.Choice.{if_then_else_}
@@ -31,6 +31,17 @@ laneOfByte x =
     else if eqb x 71 || eqb x 103 then 2
     else if eqb x 84 || eqb x 116 then 3
     else noLane
+
+-- whether it has a lane
+abbrev pub isBase : ℕ → Bool
+isBase x = not (eqb (laneOfByte x) noLane)
+
+-- the lane of the base that has two bits of a byte: they are 0, 1, 3 and 2 in A, C, G and T of either case
+unfoldable pub laneByBits : ℕ → ℕ
+laneByBits x =
+    let bits = x / 2 % 4 in
+    if ltb bits 2 then bits
+    else 5 - bits
 
 -- the base of a lane, and N for no lane
 unfoldable pub baseOf : ℕ → ℕ

@@ -1,6 +1,8 @@
 // The four lanes, one for each of A, C, G and T, in this order.
 ghost use mathlib.Core.Path.{_≡_};
-ghost use Rattle.tie_rules.specs.Lanes.{laneOfByte, baseOf};
+ghost use mathlib.Core.Bool.{true};
+ghost use Prim.Native.Nat.{_<_};
+ghost use Rattle.tie_rules.specs.Lanes.{laneOfByte, isBase, laneByBits, baseOf};
 
 // The number that says that there is no lane.
 pub const NO_LANE: usize = 4;
@@ -16,6 +18,29 @@ pub fn lane_of(base: u8) -> usize
         b'T' | b't' => 3,
         _ => NO_LANE,
     }
+}
+
+// Whether a byte has a lane: the same answer for all bases, which becomes one test of a bit.
+pub fn is_base(byte: u8) -> bool
+    ensures { λ r. ⌜ r ≡ isBase byte ⌝ }
+{
+    match byte {
+        b'A' | b'C' | b'G' | b'T' | b'a' | b'c' | b'g' | b't' => true,
+        _ => false,
+    }
+}
+
+// The lane of a base by two bits of its byte, with no jump. A byte that is no base gets a lane, too.
+pub fn lane_by_bits(byte: u8) -> usize
+    ensures bits { λ r. ⌜ r ≡ laneByBits byte ⌝ }
+    ensures lane { λ r. ⌜ (isBase byte ≡ true → r ≡ laneOfByte byte) ⌝ }
+    ensures inside { λ r. ⌜ r < 4 ⌝ }
+{
+    let bits = byte / 2 % 4;
+    if bits < 2 {
+        return bits as usize;
+    }
+    (5 - bits) as usize
 }
 
 // The base of a lane, and N for NO_LANE: the source's DNA_BASES.

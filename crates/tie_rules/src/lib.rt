@@ -6,6 +6,8 @@ mod unique_max;
 
 pub use lane::NO_LANE;
 pub use lane::base_of;
+pub use lane::is_base;
+pub use lane::lane_by_bits;
 pub use lane::lane_of;
 pub use tie_rule::TieRule;
 pub use tie_rule::fgbio_tie;

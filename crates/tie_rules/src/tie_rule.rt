@@ -8,8 +8,7 @@ ghost use Rattle.tie_rules.specs.Ties.{ruleOf, fgbioTie, nearPatterns, u
 use crate::lane::NO_LANE;
 use crate::lead::fgbio_lead;
 
-// 2^-52
-pub const FGBIO_TIE_EPSILON: f64 = 2.220446049250313e-16;
+pub const FGBIO_TIE_EPSILON: f64 = float::EPSILON;
 
 pub enum TieRule {
     // A tie is a separation of at most 4 units in the last place.

@@ -2,5 +2,4 @@ pub mod Dna
 pub mod Verdicts
 pub mod Calls
 pub mod Sums
-pub mod Counts
 pub mod DnaClaims

@@ -1,13 +1,12 @@
 -- As it is run; `sums-byte` (umi_column/proofs/SumLaws) joins it to `namedByte`: Kahan's sums of a column's four lanes, with no counts.
 use Prim.Native.Nat.{ℕ, _+_, _-_}
 use mathlib.Core.List.{List, [], _∷_}
-use lib.Dec.{ltb}
 use lib.Ieee.{Float, nan}
 use lib.ListN.{getD, replicate}
 use Rattle.float.specs.Ops.{plusZero}
 use Rattle.words.specs.Choice.{if_then_else_}
 use Rattle.tie_rules.specs.declared.tie_rule.TieRule.{TieRule}
-use Rattle.tie_rules.specs.Lanes.{noLane, laneOfByte, baseOf}
+use Rattle.tie_rules.specs.Lanes.{laneOfByte, isBase, baseOf}
 use Rattle.tie_rules.specs.Ties.{uniqueMaxIndexWith}
 use Rattle.base_builder.specs.declared.observation.LaneSums.{LaneSums}
 use Rattle.base_builder.specs.Observation.{movedLanes}
@@ -17,15 +16,10 @@ use Rattle.umi_column.specs.Dna.{isDnaBase}
 unfoldable pub noSums : LaneSums
 noSums = record { likelihoods = replicate 4 plusZero; compensations = replicate 4 plusZero }
 
--- the one logarithm amid the other: from place 3 - k on stand the values of the four lanes where lane k was observed
-unfoldable pub windowOf : Float → Float → List Float
-windowOf correct error = error ∷ error ∷ error ∷ correct ∷ error ∷ error ∷ error ∷ error ∷ []
-
--- the sums after a byte: one that is no base leaves them as they are
+-- the sums after a byte, by a window (`windowOf`, observation_windows/specs/Windows): one that is no base leaves them as they are
 unfoldable pub summedBy : List Float → ℕ → LaneSums → LaneSums
 summedBy window x s =
-    let k = laneOfByte x in
-    if ltb k noLane then movedLanes (λ i. getD window (3 - k + i) nan) s
+    if isBase x then movedLanes (λ i. getD window (3 - laneOfByte x + i) nan) s
     else s
 
 -- after a column

@@ -10,5 +10,4 @@ pub use calls::sums_byte;
 pub use dna::is_dna_base;
 pub use sums::add_base;
 pub use sums::no_sums;
-pub use sums::window_of;
 pub use verdicts::column_verdict;

@@ -24,8 +24,9 @@ use Rattle.tie_rules.specs.Ties.{uniqueMaxIndexWith}
 use Rattle.tie_rules.proofs.Clear.{all-clear}
 use Rattle.base_builder.specs.Observation.{sumAt}
 use Rattle.base_builder_laws.proofs.Named.{named}
-use Rattle.umi_column.specs.Sums.{noSums, windowOf, summedAll}
-use Rattle.umi_column.specs.Counts.{countOf, minus32, apart, Leads}
+use Rattle.observation_windows.specs.Windows.{windowOf}
+use Rattle.umi_column.specs.Sums.{noSums, summedAll}
+use Rattle.umi_count_laws.specs.Counts.{timesObserved, minus32, logarithmsApart, Leads}
 use Rattle.umi_count_laws.specs.Named.{NamedByCounts}
 use Rattle.umi_count_laws.proofs.Rounding.{near}
 use Rattle.umi_count_laws.proofs.Places.{Fine, At, over, under, unit, base, less, lt-is, lt-places, le-places}
@@ -109,7 +110,7 @@ module _ (e : ℕ) (fine : Fine e) (correct error : Float) (u w p q : ℕ) (corr
   stands i inside = summed e fine correct error u w p q correct-at error-at correct-is error-is order most i inside column (fall-room i) short
 
   -- the lane that was observed more often is more than 1 above
-  ahead : (i j : ℕ) → i < 4 → j < 4 → countOf j column < countOf i column → lt epsilon (lane found i ⊖ lane found j) ≡ true
+  ahead : (i j : ℕ) → i < 4 → j < 4 → timesObserved j column < timesObserved i column → lt epsilon (lane found i ⊖ lane found j) ≡ true
   ahead i j h k more =
       let some = fine .some in
       let a = stands i h in
@@ -117,7 +118,7 @@ module _ (e : ℕ) (fine : Fine e) (correct error : Float) (u w p q : ℕ) (corr
       let fa = fall-room i in
       let fb = fall-room j in
       let slack : length column * e ≤ 255 * e = mul-le-mul-right e short in
-      let counts : suc (countOf j column) * (q - p) ≤ countOf i column * (q - p) = mul-le-mul-right (q - p) more in
+      let counts : suc (timesObserved j column) * (q - p) ≤ timesObserved i column * (q - p) = mul-le-mul-right (q - p) more in
       let level = falls p q (q - p) gap i j h k column in
       let (r, l, n) = less e fine (a .lane-at) (b .lane-at) (omega arith) (omega arith) (omega arith) in
       lt-trans epsilon one (lane found i ⊖ lane found j) eps-one (lt-places e fine (one-at e fine) l (omega arith))
@@ -166,7 +167,7 @@ far-lt z h = test (lt epsilon z) (λ t. t) (λ t. clash two-above (le-le two z e
 
 -- ---- the theorem
 pub named-by-counts : NamedByCounts
-unfolding apart
+unfolding logarithmsApart
 named-by-counts correct error h column short i inside leads =
     let (ab, c) = both (le minus32 error && le correct plusZero) (le two (correct ⊖ error)) h in
     let (a, b) = both (le minus32 error) (le correct plusZero) ab in

@@ -1,22 +1,24 @@
 -- Each lane's sum after a column, to within five steps for each byte: the counts say how far the lane has fallen. Assumes nothing.
 use mathlib.Core.Path.{_≡_, refl, sym, ap, _∙_, subst}
 use mathlib.Core.List.{List, [], _∷_}
-use Prim.Native.Nat.{ℕ, zero, suc, _+_, _-_, _*_, _≤_, _<_}
+use Prim.Native.Nat.{ℕ, _+_, _-_, _*_, _≤_, _<_}
 use native.Mathlib.Omega.{arith}
-use lib.Dec.{ltb, eqb}
+use lib.Dec.{eqb}
 use lib.ListN.{length, getD}
 use lib.Ieee.{Float, nan, ofBits}
-use borrow.Author.Tests.{ltb-true, ltb-false, ne-eqb}
+use borrow.Author.Tests.{eqb-true, eqb-false, eq-eqb, ne-eqb}
 use Rattle.float.specs.Ops.{plusZero}
 use Rattle.words.specs.Choice.{if_then_else_}
 use Rattle.words.proofs.Cases.{test}
-use Rattle.tie_rules.specs.Lanes.{lanes, lane, noLane, laneOfByte}
-use Rattle.tie_rules.proofs.Lanes.{lanes-at}
+use Rattle.tie_rules.specs.Lanes.{lanes, noLane, laneOfByte, isBase}
+use Rattle.tie_rules.proofs.Lanes.{four, lanes-at, in-lane}
 use Rattle.base_builder.specs.declared.observation.Sum.{Sum}
-use Rattle.base_builder.specs.Observation.{movedBy, sumAt}
+use Rattle.base_builder.specs.Observation.{movedBy, sumAt, valueOf}
 use Rattle.base_builder.specs.declared.observation.LaneSums.{LaneSums}
-use Rattle.umi_column.specs.Sums.{noSums, windowOf, summedBy, summedAll}
-use Rattle.umi_column.specs.Counts.{countOf}
+use Rattle.observation_windows.specs.Windows.{windowOf}
+use Rattle.observation_windows.proofs.Laws.{window-at}
+use Rattle.umi_column.specs.Sums.{noSums, summedBy, summedAll}
+use Rattle.umi_count_laws.specs.Counts.{timesObserved}
 use Rattle.umi_count_laws.proofs.Places.{Fine, At, over, unit, base}
 use Rattle.umi_count_laws.proofs.KahanStep.{Stands, kept, stepped}
 
@@ -25,7 +27,7 @@ module _ (p q : ℕ) where
   -- one byte
   unfoldable pub lowers : ℕ → ℕ → ℕ
   lowers i x =
-      if ltb (laneOfByte x) noLane then (if eqb (laneOfByte x) i then p else q)
+      if isBase x then (if eqb (laneOfByte x) i then p else q)
       else 0
 
   -- a column
@@ -36,26 +38,26 @@ module _ (p q : ℕ) where
   -- of a lane that was never observed
   unfoldable whole : List ℕ → ℕ
   whole [] = 0
-  whole (x ∷ xs) = (if ltb (laneOfByte x) noLane then q else 0) + whole xs
+  whole (x ∷ xs) = (if isBase x then q else 0) + whole xs
 
   module _ (d : ℕ) (apart : p + d ≡ q) where
     -- a lane falls the less the more often it was observed
-    fall-whole : (i : ℕ) → i < 4 → (column : List ℕ) → fall i column + countOf i column * d ≡ whole column
-    unfolding fall lowers whole countOf
+    fall-whole : (i : ℕ) → i < 4 → (column : List ℕ) → fall i column + timesObserved i column * d ≡ whole column
+    unfolding fall lowers whole timesObserved
     fall-whole i h [] = omega arith
     fall-whole i h (x ∷ xs) =
         let k = laneOfByte x in
         let more = fall-whole i h xs in
-        test (ltb k noLane)
+        test (eqb k noLane)
+        (λ t. let n = eqb-true k noLane t in rw (t, ne-eqb k i (λ (e : k ≡ i). omega arith)) (omega arith))
         (λ t. test (eqb k i) (λ u. rw (t, u) (omega arith)) (λ u. rw (t, u) (omega arith)))
-        (λ t. let l = ltb-false k noLane t in rw (t, ne-eqb k i (λ (e : k ≡ i). omega arith)) (omega arith))
 
     lowers-most : (i x : ℕ) → lowers i x ≤ q
     unfolding lowers
     lowers-most i x =
-        test (ltb (laneOfByte x) noLane)
-        (λ t. test (eqb (laneOfByte x) i) (λ u. rw (t, u) (omega arith)) (λ u. rw (t, u) (omega arith)))
+        test (eqb (laneOfByte x) noLane)
         (λ t. rw t (omega arith))
+        (λ t. test (eqb (laneOfByte x) i) (λ u. rw (t, u) (omega arith)) (λ u. rw (t, u) (omega arith)))
 
     -- no more than q for each byte
     pub fall-most : (i : ℕ) (column : List ℕ) → fall i column ≤ length column * q
@@ -65,7 +67,7 @@ module _ (p q : ℕ) where
 
 -- the lanes i and j
 pub falls : (p q d : ℕ) → p + d ≡ q → (i j : ℕ) → i < 4 → j < 4 → (column : List ℕ)
-    → fall p q i column + countOf i column * d ≡ fall p q j column + countOf j column * d
+    → fall p q i column + timesObserved i column * d ≡ fall p q j column + timesObserved j column * d
 falls p q d apart i j h k column = fall-whole p q d apart i h column ∙ sym (fall-whole p q d apart j k column)
 
 -- ---- the window
@@ -76,17 +78,11 @@ module _ (correct error : Float) where
       if eqb k i then correct
       else error
 
-  window-lanes : (k : ℕ) → k < 4 → lanes (λ i. getD (windowOf correct error) (3 - k + i) nan) ≡ lanes (value k)
-  unfolding lanes windowOf
-  window-lanes zero h = refl
-  window-lanes (suc zero) h = refl
-  window-lanes (suc (suc zero)) h = refl
-  window-lanes (suc (suc (suc zero))) h = refl
-  window-lanes (suc (suc (suc (suc k)))) h = absurd (omega arith)
-
   window-lane : (k i : ℕ) → k < 4 → i < 4 → getD (windowOf correct error) (3 - k + i) nan ≡ value k i
+  unfolding valueOf
   window-lane k i h l =
-      sym (lanes-at (λ j. getD (windowOf correct error) (3 - k + j) nan) nan i l) ∙ ap (λ (xs : List Float). getD xs i nan) (window-lanes k h) ∙ lanes-at (value k) nan i l
+      window-at correct error k i h l
+      ∙ test (eqb k i) (λ t. rw (t, eq-eqb i k (sym (eqb-true k i t)))) (λ t. rw (t, ne-eqb i k (λ e. eqb-false k i t (sym e))))
 
   -- lane i of what is moved
   moved-lane : (k i : ℕ) → k < 4 → i < 4 → (s : LaneSums) → (f : Sum → Float)
@@ -102,7 +98,7 @@ same {e} {f} {f'} {n} {n'} {s} {s'} p q r h =
 -- before the first byte
 start : (e i : ℕ) → i < 4 → Stands e (sumAt noSums i) 0 0
 unfolding noSums ofBits
-start e i h = same {s = record { lane = plusZero; compensation = plusZero }} (at-first i h) refl refl record {
+start e i h = same {s = record { lane = plusZero; compensation = plusZero }} (four (λ (i : ℕ). record { lane = plusZero; compensation = plusZero } ≡ sumAt noSums i) refl refl refl refl i h) refl refl record {
   place = base e;
   lane-at = over 0 (refl, omega arith) (omega arith);
   lane-near = omega arith;
@@ -110,13 +106,6 @@ start e i h = same {s = record { lane = plusZero; compensation = plusZero }} (at
   compensation-at = over 0 (refl, omega arith) (omega arith);
   error-small = omega arith;
 }
-  where
-    at-first : (i : ℕ) → i < 4 → record { lane = plusZero; compensation = plusZero } ≡ sumAt noSums i
-    at-first zero h = refl
-    at-first (suc zero) h = refl
-    at-first (suc (suc zero)) h = refl
-    at-first (suc (suc (suc zero))) h = refl
-    at-first (suc (suc (suc (suc i)))) h = absurd (omega arith)
 
 module _ (e : ℕ) (fine : Fine e) (correct error : Float) (u w p q : ℕ) (correct-at : At e correct u) (error-at : At e error w) (correct-is : u + p ≡ base e) (error-is : w + q ≡ base e) (order : p ≤ q) (most : q ≤ 32 * unit e) (i : ℕ) (inside : i < 4) where
   -- one byte
@@ -125,14 +114,14 @@ module _ (e : ℕ) (fine : Fine e) (correct error : Float) (u w p q : ℕ) (corr
   unfolding summedBy lowers
   byte x s f n h room few =
       let k = laneOfByte x in
-      test (ltb k noLane)
+      test (eqb k noLane)
+      (λ t. rw t (same refl (omega arith) refl (kept h)))
       (λ t.
-      let K = ltb-true k noLane t in
+      let K = in-lane x t in
       rw (t, moved-lane correct error k i K inside s (λ m. m .lane), moved-lane correct error k i K inside s (λ m. m .compensation))
       (test (eqb k i)
       (λ o. rw o (stepped fine h correct-at correct-is (omega (arith, order)) (rw (t, o) at room) few))
       (λ o. rw o (stepped fine h error-at error-is most (rw (t, o) at room) few))))
-      (λ t. rw t (same refl (omega arith) refl (kept h)))
 
   -- a column
   walk : (column : List ℕ) (s : LaneSums) (f n : ℕ) → Stands e (sumAt s i) f n → f + fall p q i column ≤ 8160 * unit e → n + length column ≤ 255

@@ -2,20 +2,13 @@
 use mathlib.Core.Path.{_≡_, refl}
 use mathlib.Core.List.{List, [], _∷_}
 use mathlib.Core.Logic.{_≢_}
-use Prim.Native.Nat.{ℕ, suc, zero, _<_}
-use native.Mathlib.Omega.{arith}
+use Prim.Native.Nat.{ℕ, _<_}
 use lib.ListN.{getD}
-use Rattle.umi_column.specs.Counts.{countOf, Leads}
+use Rattle.tie_rules.proofs.Lanes.{four}
+use Rattle.umi_count_laws.specs.Counts.{timesObserved, Leads}
 use Rattle.umi_family.specs.Counts.{Above}
 
 -- ---- of four counts, one that is above the three others
-four : (P : ℕ → Type 0) → P 0 → P 1 → P 2 → P 3 → (j : ℕ) → j < 4 → P j
-four P a c g t zero h = a
-four P a c g t (suc zero) h = c
-four P a c g t (suc (suc zero)) h = g
-four P a c g t (suc (suc (suc zero))) h = t
-four P a c g t (suc (suc (suc (suc j)))) h = absurd (omega arith)
-
 module _ (a c g t : ℕ) where
   abbrev counts : List ℕ
   counts = a ∷ c ∷ g ∷ t ∷ []
@@ -33,11 +26,11 @@ module _ (a c g t : ℕ) where
   above-fourth h = four (λ (j : ℕ). j ≢ 3 → getD counts j 0 < t) (λ _. h .0) (λ _. h .1) (λ _. h .2) (λ n. absurd (n refl))
 
 -- the four counts are the column's
-counts-at : (column : List ℕ) (a c g t : ℕ) → a ≡ countOf 0 column → c ≡ countOf 1 column → g ≡ countOf 2 column → t ≡ countOf 3 column
-    → (j : ℕ) → j < 4 → getD (a ∷ c ∷ g ∷ t ∷ []) j 0 ≡ countOf j column
-counts-at column a c g t e f p q = four (λ (j : ℕ). getD (a ∷ c ∷ g ∷ t ∷ []) j 0 ≡ countOf j column) e f p q
+counts-at : (column : List ℕ) (a c g t : ℕ) → a ≡ timesObserved 0 column → c ≡ timesObserved 1 column → g ≡ timesObserved 2 column → t ≡ timesObserved 3 column
+    → (j : ℕ) → j < 4 → getD (a ∷ c ∷ g ∷ t ∷ []) j 0 ≡ timesObserved j column
+counts-at column a c g t e f p q = four (λ (j : ℕ). getD (a ∷ c ∷ g ∷ t ∷ []) j 0 ≡ timesObserved j column) e f p q
 
-pub leads : (column : List ℕ) (a c g t : ℕ) → a ≡ countOf 0 column → c ≡ countOf 1 column → g ≡ countOf 2 column → t ≡ countOf 3 column
+pub leads : (column : List ℕ) (a c g t : ℕ) → a ≡ timesObserved 0 column → c ≡ timesObserved 1 column → g ≡ timesObserved 2 column → t ≡ timesObserved 3 column
     → (i : ℕ) → i < 4 → Above (a ∷ c ∷ g ∷ t ∷ []) i → Leads column i
 leads column a c g t e f p q i h above j l n =
     rw (← counts-at column a c g t e f p q j l, ← counts-at column a c g t e f p q i h) (above j l n)

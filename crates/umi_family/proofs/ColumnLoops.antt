@@ -14,7 +14,8 @@ use Rattle.umi_column.specs.Calls.{namedByte}
 use Rattle.umi_column.proofs.SumLaws.{sums-byte}
 use Rattle.tie_rules.specs.declared.tie_rule.TieRule.{TieRule}
 use Rattle.base_builder.specs.declared.observation.LaneSums.{LaneSums}
-use Rattle.umi_column.specs.Sums.{windowOf, summedBy, summedAll}
+use Rattle.observation_windows.specs.Windows.{windowOf}
+use Rattle.umi_column.specs.Sums.{summedBy, summedAll}
 use Rattle.umi_rows.specs.Rows.{bytesAt, columnsAt}
 use Rattle.umi_rows.proofs.RowLoops.{map-at, given-length, given-at}
 use Rattle.umi_rows.proofs.ColumnLoops.{filled-more, filled, columns-length, column-at}

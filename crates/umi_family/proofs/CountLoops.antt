@@ -15,7 +15,7 @@ use Rattle.words.proofs.Claims.{below}
 use Rattle.words.specs.Lists.{byteAt}
 use Rattle.lent_bytes.proofs.Lists.{bytes-from}
 use Rattle.tie_rules.specs.Lanes.{laneOfByte}
-use Rattle.umi_column.specs.Counts.{countOf}
+use Rattle.umi_count_laws.specs.Counts.{timesObserved}
 use Rattle.umi_rows.specs.Rows.{bytesAt}
 use Rattle.umi_family.specs.Counts.{hitBy, oneIn, Room, Counted, CountsOf}
 use Rattle.umi_rows.proofs.RowLoops.{given-length, given-at, row-lent}
@@ -82,7 +82,7 @@ one-most false = omega arith
 module _ (i w : ℕ) (s ps : List ℕ) where
   abbrev pub Done : ℕ → List ℕ → Type 0
   Done k counts =
-      (length counts ≡ 255) × ((j : ℕ) → j < w → (byteAt counts j ≤ k) × (byteAt counts j + countOf i (drop k (bytesAt j s ps)) ≡ countOf i (bytesAt j s ps)))
+      (length counts ≡ 255) × ((j : ℕ) → j < w → (byteAt counts j ≤ k) × (byteAt counts j + timesObserved i (drop k (bytesAt j s ps)) ≡ timesObserved i (bytesAt j s ps)))
 
   pub done-none : w ≤ 255 → Done 0 (replicate 255 0)
   done-none h = (
@@ -92,12 +92,12 @@ module _ (i w : ℕ) (s ps : List ℕ) where
         (omega arith, rw z (omega arith)),
   )
 
-  count-from : (j k : ℕ) → k < length ps → countOf i (drop k (bytesAt j s ps)) ≡ oneIn i (byteAt s (byteAt ps k + 1 + j)) + countOf i (drop (k + 1) (bytesAt j s ps))
-  unfolding countOf
+  count-from : (j k : ℕ) → k < length ps → timesObserved i (drop k (bytesAt j s ps)) ≡ oneIn i (byteAt s (byteAt ps k + 1 + j)) + timesObserved i (drop (k + 1) (bytesAt j s ps))
+  unfolding timesObserved
   count-from j k h =
       let size : length (bytesAt j s ps) ≡ length ps = given-length _ ps in
       rw (bytes-from (bytesAt j s ps) k (omega arith), given-at (λ p. byteAt s (p + 1 + j)) ps k 0 h)
-      (one-more (eqb (laneOfByte (byteAt s (byteAt ps k + 1 + j))) i) (countOf i (drop (k + 1) (bytesAt j s ps))))
+      (one-more (eqb (laneOfByte (byteAt s (byteAt ps k + 1 + j))) i) (timesObserved i (drop (k + 1) (bytesAt j s ps))))
 
   module _ (k : ℕ) (before : List ℕ) (d : Done k before) where
     pub done-room : w ≤ 255 → k < 255 → Room w before
@@ -117,7 +117,7 @@ module _ (i w : ℕ) (s ps : List ℕ) where
     )
 
     pub done-all : length ps ≤ k → CountsOf i w s ps before
-    unfolding countOf
+    unfolding timesObserved
     done-all h j l =
         let size : length (bytesAt j s ps) ≤ k = omega (arith, given-length (λ p. byteAt s (p + 1 + j)) ps) in
         let so = rw (drop-of-length-le (bytesAt j s ps) size) at (d .1 j l .1) in

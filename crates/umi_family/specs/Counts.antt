@@ -9,7 +9,7 @@ use lib.ListN.{length, getD}
 use Rattle.words.specs.Choice.{if_then_else_}
 use Rattle.words.specs.Lists.{byteAt}
 use Rattle.tie_rules.specs.Lanes.{laneOfByte}
-use Rattle.umi_column.specs.Counts.{countOf}
+use Rattle.umi_count_laws.specs.Counts.{timesObserved}
 use Rattle.umi_rows.specs.Rows.{bytesAt}
 
 -- 1 for either letter, and 0 for any other byte
@@ -35,7 +35,7 @@ Counted i row before after =
 
 -- at each of w places the bytes of lane i in the column there
 abbrev pub CountsOf : ℕ → ℕ → List ℕ → List ℕ → List ℕ → Type 0
-CountsOf i w s ps counts = (k : ℕ) → k < w → byteAt counts k ≡ countOf i (bytesAt k s ps)
+CountsOf i w s ps counts = (k : ℕ) → k < w → byteAt counts k ≡ timesObserved i (bytesAt k s ps)
 
 -- of four counts that of lane i is above each other
 abbrev pub Above : List ℕ → ℕ → Type 0

@@ -2,18 +2,18 @@
 ghost use mathlib.Core.Path.{_≡_};
 ghost use Prim.Native.Nat.{_-_};
 ghost use lib.ListN.{length, take};
-ghost use Rattle.umi_column.specs.Sums.{windowOf};
+ghost use Rattle.observation_windows.specs.Windows.{windowOf};
 ghost use Rattle.umi_rows.specs.Rows.{Fits, columnsAt};
 ghost use Rattle.umi_family.specs.Family.{bytesBy, bytesSummed, lastBy};
 use crate::by_sums::call_summed;
 use crate::counts::counts_decide;
 use crate::leads::call_counted;
 use base_builder::ConsensusBaseBuilder;
+use observation_windows::window_of;
 use rate_tables::AdjustedEntry;
 use tie_rules::TieRule;
 use umi_column::add_column;
 use umi_column::consensus_byte;
-use umi_column::window_of;
 use umi_rows::gather;
 
 // The bytes of all columns but the last: by counts where these decide and have room, else by sums

@@ -5,13 +5,13 @@ ghost use mathlib.Core.List.{[], _∷_};
 ghost use Prim.Native.Nat.{_≤_, _<_};
 ghost use lib.ListN.{length};
 ghost use Rattle.tie_rules.specs.declared.tie_rule.TieRule.the-variants.{FgbioCompat};
-ghost use Rattle.umi_column.specs.Counts.{apart};
+ghost use Rattle.umi_count_laws.specs.Counts.{logarithmsApart};
 ghost use Rattle.umi_family.specs.Counts.{hitBy, Room, Counted, Above};
 use tie_rules::NO_LANE;
 use tie_rules::TieRule;
 
 fn are_apart(correct: f64, error_per_alt: f64) -> bool
-    ensures { λ r. ⌜ r ≡ apart correct «error_per_alt» ⌝ }
+    ensures { λ r. ⌜ r ≡ logarithmsApart correct «error_per_alt» ⌝ }
 {
     (-32.0 <= error_per_alt) & (correct <= 0.0) & (2.0 <= correct - error_per_alt)
 }
@@ -19,7 +19,7 @@ fn are_apart(correct: f64, error_per_alt: f64) -> bool
 // Whether the base that was observed more often than each other is the call. False is never wrong: the
 // columns are then summed.
 pub(crate) fn counts_decide(rule: TieRule, correct: f64, error_per_alt: f64) -> bool
-    ensures { λ r. ⌜ (r ≡ true → (rule ≡ FgbioCompat) × (apart correct «error_per_alt» ≡ true)) ⌝ }
+    ensures { λ r. ⌜ (r ≡ true → (rule ≡ FgbioCompat) × (logarithmsApart correct «error_per_alt» ≡ true)) ⌝ }
 {
     match rule {
         TieRule::UlpRelative => false,

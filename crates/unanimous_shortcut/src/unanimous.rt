@@ -9,14 +9,9 @@ use lane_calls::Reply;
 use lane_calls::called;
 use lane_calls::no_call;
 use lane_calls::unanimous_margin;
+use phred::LN_TWO;
 use tie_rules::NO_LANE;
 use tie_rules::TieRule;
-
-// 2^-52
-const EPSILON: f64 = 2.220446049250313e-16;
-
-// ln 2
-const LN_2: f64 = 0.6931471805599453;
 
 // 1 where a base was observed.
 fn seen(n: u32) -> usize
@@ -49,7 +44,7 @@ fn leads(winner_ll: f64, loser_ll: f64) -> bool
 {
     let gap = winner_ll - loser_ll;
     if float::is_finite(gap) {
-        return EPSILON < gap;
+        return float::EPSILON < gap;
     }
     false
 }
@@ -87,7 +82,7 @@ fn cap_reply(
     }
     let delta = unanimous_margin(winner_ll, loser_ll, 1.0);
     let cerr_at_cap = cerr_min[cap - 1];
-    if LN_2 <= winner_ll - loser_ll - thresholds[cap] {
+    if LN_TWO <= winner_ll - loser_ll - thresholds[cap] {
         if delta < 0.5 * cerr_at_cap {
             return Reply::Replied(called(i, byte(cap)));
         }

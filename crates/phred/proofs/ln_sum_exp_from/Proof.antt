@@ -13,7 +13,9 @@ slice-aggregate-ln-sum-exp-fold c = sym (simp length-take (omega arith))
 
 returns : tie.Need-returns
 unfolding lnSumExpFrom
-returns c = rw (sums-append, ← c .before .before .ln-sum-exp-fold .ensures, ← rest-whole (c .before .before .before .before .before .before .args .values .now) _) (c .ln-sum-exp-fold2 .ensures)
+returns c =
+    let args = c .before .before .before .before .before .before .args in
+    rw (sums-append, ← c .before .before .ln-sum-exp-fold .ensures, ← rest-whole (args .values .now) _) (c .ln-sum-exp-fold2 .ensures)
 
 pub ln-sum-exp-from-spec : {M : Type 1} → statement M
 ln-sum-exp-from-spec =

@@ -32,11 +32,6 @@ returns c =
     let a = c .before .before .before .before .before .before .before .before .before .args in
     sym (stays (a .rows .now) (a .observations .now) (l .i) (l .after) (l .left) (l .inv .1) (c .if2 .taken)) ∙ l .inv .2
 
-lane-of-base-requires : tie.Need-lane-of-base-requires Inv-loop μ-loop
-lane-of-base-requires c κs =
-    let b = c .before .before in
-    not-true _ (sym (b .is-base .ensures) ∙ c .before .if1 .taken)
-
 loop-again : tie.Need-loop-again Inv-loop μ-loop
 loop-again c =
     let at-test = c .before in
@@ -52,7 +47,7 @@ loop-again c =
     let n = not-true _ (sym is-base ∙ w .0 .taken) in
     let k = laneOfByte (getD s (l .i) 0) in
     let o : c .if1 .after ≡ windowObserved rows (windowAt (getD s (l .i + 1) 0) k) k (l .after) =
-    w .7 ∙ rw (← w .4 .ensures, ← w .2 .ensures .0) (w .5 .ensures) in (
+    w .7 ∙ rw (← w .4 .ensures, ← w .2 .ensures .1 .0 (sym is-base ∙ w .0 .taken)) (w .5 .ensures) in (
       omega arith,
       w .6 ∙ room-less rows s (l .i) (l .after) (l .left) (l .inv .1) n (w .1 .left) (c .if1 .after) o,
       observed rows s (l .i) (l .after) (l .left) (l .inv .1) n (w .1 .left) (c .if1 .after) o inside ∙ l .inv .2,
@@ -80,7 +75,7 @@ add-observations-spec =
     loop-holds
     (λ c. search needs) (λ c. search needs) (λ c κs. search needs)
     returns
-    lane-of-base-requires
+    (λ c κs. search needs)
     (λ c. search needs) (λ c. search needs) (λ c κs. search needs) (λ c. search needs)
     (λ c. search needs) (λ c. search needs) (λ c κs. search needs) (λ c. search needs)
     (λ c. search needs) (λ c. search needs)

@@ -18,11 +18,19 @@ returns-3 c = rw (← c .before .before .before .before .before .is-nan .ensures
 
 returns-4 : tie.Need-returns-4
 unfolding fgbioStep
-returns-4 c = rw (← c .before .before .before .before .before .before .before .is-nan .ensures, c .before .before .before .before .before .before .if1 .left, c .before .before .before .before .if2 .left, c .before .before .if3 .left, ← c .before .fgbio-tie .ensures, c .if4 .taken)
+returns-4 c =
+    let is-nan = c .before .before .before .before .before .before .before .is-nan in
+    let if1 = c .before .before .before .before .before .before .if1 in
+    let if2 = c .before .before .before .before .if2 in
+    rw (← is-nan .ensures, if1 .left, if2 .left, c .before .before .if3 .left, ← c .before .fgbio-tie .ensures, c .if4 .taken)
 
 returns-5 : tie.Need-returns-5
 unfolding fgbioStep
-returns-5 c = rw (← c .before .before .before .before .before .before .before .is-nan .ensures, c .before .before .before .before .before .before .if1 .left, c .before .before .before .before .if2 .left, c .before .before .if3 .left, ← c .before .fgbio-tie .ensures, c .if4 .left)
+returns-5 c =
+    let is-nan = c .before .before .before .before .before .before .before .is-nan in
+    let if1 = c .before .before .before .before .before .before .if1 in
+    let if2 = c .before .before .before .before .if2 in
+    rw (← is-nan .ensures, if1 .left, if2 .left, c .before .before .if3 .left, ← c .before .fgbio-tie .ensures, c .if4 .left)
 
 pub fgbio-step-spec : {M : Type 1} → statement M
 fgbio-step-spec =

@@ -52,8 +52,8 @@ summed-byte-spec =
     (λ c. search needs)
     loop-again
     (λ c. search needs)
-    (λ c. omega (arith, c .before .before .before .before .before .before .pre .2 0 (omega arith)))
-    (λ c. omega (arith, c .before .before .before .before .before .before .pre .2 0 (omega arith)))
-    (λ c. omega (arith, c .before .before .before .before .before .before .before .pre .2 0 (omega arith)))
+    (λ c. let pre = c .before .before .before .before .before .before .pre in omega (arith, pre .2 0 (omega arith)))
+    (λ c. let pre = c .before .before .before .before .before .before .pre in omega (arith, pre .2 0 (omega arith)))
+    (λ c. let pre = c .before .before .before .before .before .before .before .pre in omega (arith, pre .2 0 (omega arith)))
     (λ c κs. search needs)
     returns)

@@ -36,10 +36,11 @@ any-differs-requires c κs =
 returns-2 : tie.Need-returns-2
 unfolding calledAt textAt
 returns-2 c =
+    let else1 = c .before .before .before .before .before .before in
     let p = c .before .before .before .before .call-columns in
     let a = c .before .before .before .before .before .before .before .before .before .before .before .args in
     let size : length (p .last .1 .1 .1 .1 .0) ≡ length (a .text .now) = p .kept .1 .1 .1 .1 .0 in
-    let e = within (c .before .before .before .before .before .before) .0 in
+    let e = within else1 .0 in
     let errors = rw (size, p .ensures .0) at (c .any-differs .ensures) in
     (rw (e, errors, p .ensures .1), rw e (p .ensures .0))
 

@@ -23,6 +23,8 @@ slice-aggregate-add-column c =
 
 returns-2 : tie.Need-returns-2
 returns-2 c =
+    let if1 = c .before .before .before .before .before .before .before .before .before .if1 in
+    let reset = c .before .before .before .reset in
     let s = c .before .before .before .before .before .before .before .before .before .before .before .before .before in
     let a = s .args in
     let w = length (a .text .now) in
@@ -32,9 +34,9 @@ returns-2 c =
     let text = p .last .1 .1 .1 .1 .1 .0 in
     let size : length text ≡ w = p .kept .1 .1 .1 .1 .1 .0 in
     let after = c .before .add-column in
-    let added : after .result ≡ builderBy (a .entry) (a .builder) (bytesAt (w - 1) (a .set .now) (a .places .now)) = rw (told, c .before .before .before .reset .ensures) at (after .ensures) in
+    let added : after .result ≡ builderBy (a .entry) (a .builder) (bytesAt (w - 1) (a .set .now) (a .places .now)) = rw (told, reset .ensures) at (after .ensures) in
     let first = gathered-first (a .set .now) (a .places .now) (w - 1) (g .result) told (s .pre .0) in
-    last-column (a .entry) (a .builder) (a .set .now) (a .places .now) w (omega (arith, c .before .before .before .before .before .before .before .before .before .if1 .left)) (s .pre .1) text size (p .ensures) (after .result) added (c .consensus-byte .result)
+    last-column (a .entry) (a .builder) (a .set .now) (a .places .now) w (omega (arith, if1 .left)) (s .pre .1) text size (p .ensures) (after .result) added (c .consensus-byte .result)
     (rw first at (c .consensus-byte .ensures))
 
 pub call-columns-spec : {M : Type 1} → statement M

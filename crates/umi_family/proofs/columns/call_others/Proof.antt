@@ -18,7 +18,9 @@ returns c =
     rw (so .0, ← d .before .before .window-of .ensures) (c .before .before .call-counted .ensures)
 
 returns-2 : tie.Need-returns-2
-returns-2 c = rw (c .before .before .before .before .before .before .window-of .ensures) at (c .before .before .call-summed .ensures)
+returns-2 c =
+    let window-of = c .before .before .before .before .before .before .window-of in
+    rw (window-of .ensures) at (c .before .before .call-summed .ensures)
 
 pub call-others-spec : {M : Type 1} → statement M
 call-others-spec =

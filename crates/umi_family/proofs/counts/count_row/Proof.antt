@@ -48,6 +48,8 @@ add-t c =
 
 loop-again : tie.Need-loop-again Inv-loop μ-loop
 loop-again c =
+    let hit = c .before .before .before .before .before .before .hit in
+    let hit2 = c .before .before .before .before .hit2 in
     let k = c .before .before .before .before .before .before .before .before in
     let o = k .before .before in
     let s = o .before .before in
@@ -56,8 +58,8 @@ loop-again c =
     let i = o .loop .i in
     let h = hits (byteAt r i) (k .shared-slice-known2 .given i .fits) in (
       omega arith,
-      passed-more 0 r (a .a .now) i (o .loop .a) (o .loop .inv .1) (omega arith) (s .pre .1) _ (ap (λ (n : ℕ). byteAt (o .loop .a) i + n) (c .before .before .before .before .before .before .hit .ensures .0 ∙ h .0)),
-      passed-more 1 r (a .c .now) i (o .loop .c) (o .loop .inv .2) (omega arith) (s .pre .2) _ (ap (λ (n : ℕ). byteAt (o .loop .c) i + n) (c .before .before .before .before .hit2 .ensures .0 ∙ h .1)),
+      passed-more 0 r (a .a .now) i (o .loop .a) (o .loop .inv .1) (omega arith) (s .pre .1) _ (ap (λ (n : ℕ). byteAt (o .loop .a) i + n) (hit .ensures .0 ∙ h .0)),
+      passed-more 1 r (a .c .now) i (o .loop .c) (o .loop .inv .2) (omega arith) (s .pre .2) _ (ap (λ (n : ℕ). byteAt (o .loop .c) i + n) (hit2 .ensures .0 ∙ h .1)),
       passed-more 2 r (a .g .now) i (o .loop .g) (o .loop .inv .3) (omega arith) (s .pre .3) _ (ap (λ (n : ℕ). byteAt (o .loop .g) i + n) (c .before .before .hit3 .ensures .0 ∙ h .2)),
       passed-more 3 r (a .t .now) i (o .loop .t) (o .loop .inv .4) (omega arith) (s .pre .4) _ (ap (λ (n : ℕ). byteAt (o .loop .t) i + n) (c .hit4 .ensures .0 ∙ h .3)),
     )

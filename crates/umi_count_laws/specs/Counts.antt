@@ -11,20 +11,20 @@ use Rattle.words.specs.Choice.{if_then_else_}
 use Rattle.tie_rules.specs.Lanes.{laneOfByte}
 
 -- how many bytes stand for lane k
-unfoldable pub countOf : ℕ → List ℕ → ℕ
-countOf k [] = 0
-countOf k (x ∷ xs) =
-    if eqb (laneOfByte x) k then suc (countOf k xs)
-    else countOf k xs
+unfoldable pub timesObserved : ℕ → List ℕ → ℕ
+timesObserved k [] = 0
+timesObserved k (x ∷ xs) =
+    if eqb (laneOfByte x) k then suc (timesObserved k xs)
+    else timesObserved k xs
 
 -- -32
 abbrev pub minus32 : Float
 minus32 = neg (bits 0x4040_0000_0000_0000)
 
 -- the two logarithms of an observation lie from -32 to 0 and at least 2 apart: then no rounding puts a lane above one that was observed more often
-unfoldable pub apart : Float → Float → Bool
-apart correct error = le minus32 error && le correct plusZero && le two (correct ⊖ error)
+unfoldable pub logarithmsApart : Float → Float → Bool
+logarithmsApart correct error = le minus32 error && le correct plusZero && le two (correct ⊖ error)
 
 -- lane i was observed more often than each other
 abbrev pub Leads : List ℕ → ℕ → Type 0
-Leads column i = (j : ℕ) → j < 4 → j ≢ i → countOf j column < countOf i column
+Leads column i = (j : ℕ) → j < 4 → j ≢ i → timesObserved j column < timesObserved i column

@@ -1,21 +1,16 @@
 -- `is_base`: each byte of the first arm has a lane, and no other has one. Assumes nothing.
 use mathlib.Core.Path.{_≡_, refl, sym, ap, _∙_}
-use mathlib.Core.Bool.{Bool, true, not}
+use mathlib.Core.Bool.{true}
 use mathlib.Core.Logic.{inl, inr, ⊎-elim}
 use Prim.Native.Nat.{ℕ}
 use borrow.Author.Tests.{ne-eqb}
-use lib.Dec.{eqb}
-use Rattle.tie_rules.specs.Lanes.{noLane, laneOfByte}
-use Rattle.observation_windows.proofs.adding.is_base.Statement.{statement}
-use Rattle.observation_windows.proofs.adding.is_base.Tie as tie
+use Rattle.tie_rules.specs.Lanes.{laneOfByte, isBase}
+use Rattle.tie_rules.proofs.lane.is_base.Statement.{statement}
+use Rattle.tie_rules.proofs.lane.is_base.Tie as tie
 
--- the contract's test
-abbrev based : ℕ → Bool
-based x = not (eqb (laneOfByte x) noLane)
-
--- so it is of a byte that is a key for which it computes
-key : (x k : ℕ) → based k ≡ true → x ≡ k → true ≡ based x
-key x k t e = sym (ap based e ∙ t)
+-- a byte is one where it is a key that computes to one
+key : (x k : ℕ) → isBase k ≡ true → x ≡ k → true ≡ isBase x
+key x k t e = sym (ap isBase e ∙ t)
 
 returns : tie.Need-returns
 unfolding laneOfByte
