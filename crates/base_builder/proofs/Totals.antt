@@ -5,7 +5,7 @@ use Prim.Native.Nat.{ℕ, _+_, _<_}
 use native.Mathlib.Omega.{arith}
 use Rattle.tie_rules.specs.Lanes.{lanes, counted}
 use Rattle.tie_rules.proofs.Lanes.{four}
-use Rattle.base_builder.specs.Observation.{countOf}
+use Rattle.lane_sums.specs.Observation.{countOf}
 use Rattle.base_builder.specs.Builder.{total, fullCount}
 
 -- it counts one more, where the builder was not full

@@ -13,13 +13,13 @@ use Rattle.refusals.specs.declared.Refusal.the-variants.{FullBuilder}
 use Rattle.refusals.specs.Refusals.{numberOf}
 use Rattle.tie_rules.specs.declared.tie_rule.TieRule.{TieRule}
 use Rattle.tie_rules.specs.declared.tie_rule.TieRule.the-variants.{FgbioCompat}
-use Rattle.base_builder.specs.declared.observation.Sum.{Sum}
-use Rattle.base_builder.specs.declared.observation.LaneSums.{LaneSums}
+use Rattle.lane_sums.specs.declared.observation.Sum.{Sum}
+use Rattle.lane_sums.specs.declared.observation.LaneSums.{LaneSums}
 use Rattle.base_builder.specs.declared.builder.ConsensusBaseBuilder.{ConsensusBaseBuilder}
 use Rattle.base_builder.specs.declared.builder.Answer.{Answer}
 use Rattle.base_builder.specs.declared.builder.Answer.the-variants.{Accepted, Refused}
 use Rattle.tie_rules.specs.Lanes.{lanes, noLane, laneOfByte, counted}
-use Rattle.base_builder.specs.Observation.{sumAt, movedLanes, valueOf, countOf}
+use Rattle.lane_sums.specs.Observation.{sumAt, movedLanes, valueOf, countOf}
 
 -- all counts together
 unfoldable pub total : List ℕ → ℕ

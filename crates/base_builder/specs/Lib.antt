@@ -1,4 +1,3 @@
-pub mod Observation
 pub mod Builder
 pub mod Calls
 pub mod History

@@ -2,7 +2,6 @@
 // (crate rate_tables) and passed beside it.
 mod builder;
 mod calls;
-mod observation;
 
 pub use builder::Addition;
 pub use builder::Answer;
@@ -15,5 +14,3 @@ pub use builder::observed;
 pub use builder::total;
 pub use calls::call_with;
 pub use calls::try_unanimous_fast_path_with;
-pub use observation::LaneSums;
-pub use observation::moved_lanes;

@@ -21,8 +21,8 @@ use Rattle.elementary.specs.Ln.{ratioOf, normalOf, lnOf}
 use Rattle.phred.specs.Phred.{lnZero, phredToLnErrorProb, lnOneMinusExp, lnNot, log1pexpOf, lnAMinusB, lnSumExpGeneral, lnSumExp, twoTrials, lnErrorProbTwoTrials}
 use Rattle.rate_tables.specs.Adjusted.{adjustedError, correctAt, errorPerAltAt, adjustedTables}
 use Rattle.words.specs.Lists.{listed}
-use Rattle.base_builder.specs.declared.observation.Sum.{Sum}
-use Rattle.base_builder.specs.Observation.{movedBy}
+use Rattle.lane_sums.specs.declared.observation.Sum.{Sum}
+use Rattle.lane_sums.specs.Observation.{movedBy}
 use Rattle.base_builder_laws.specs.Corners.{sinksAt, aboutLn, atQuality0, NanAfter}
 
 sinks : T (everyFrom sinksAt 0 94)

@@ -9,8 +9,8 @@ use Rattle.words.specs.Choice.{if_then_else_}
 use Rattle.rate_tables.specs.declared.adjusted.AdjustedProbabilityTables.{AdjustedProbabilityTables}
 use Rattle.tie_rules.specs.Lanes.{lane, counted}
 use Rattle.base_builder.specs.declared.builder.ConsensusBaseBuilder.{ConsensusBaseBuilder}
-use Rattle.base_builder.specs.declared.observation.Sum.{Sum}
-use Rattle.base_builder.specs.Observation.{valueOf}
+use Rattle.lane_sums.specs.declared.observation.Sum.{Sum}
+use Rattle.lane_sums.specs.Observation.{valueOf}
 use Rattle.base_builder_laws.specs.Counted.{Observation, valuesOf, kahan, timesOf}
 use Rattle.base_builder_laws.proofs.Run.{Holds}
 

@@ -24,7 +24,7 @@ use Rattle.lane_calls.specs.declared.call.Reply.{Reply}
 use Rattle.lane_calls.specs.declared.call.Reply.the-variants.{Replied, Deferred}
 use Rattle.lane_calls.specs.Calls.{noCall, repliedOr}
 use Rattle.base_builder.specs.declared.builder.ConsensusBaseBuilder.{ConsensusBaseBuilder}
-use Rattle.base_builder.specs.declared.observation.Sum.{Sum}
+use Rattle.lane_sums.specs.declared.observation.Sum.{Sum}
 use Rattle.base_builder.specs.Builder.{total, contributionsOf}
 use Rattle.base_builder.specs.Calls.{unanimousOf, multibaseOf, callFullOf, longWay, callOf}
 use Rattle.base_builder.specs.History.{Event, after}

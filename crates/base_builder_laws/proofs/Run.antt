@@ -20,7 +20,7 @@ use Rattle.tie_rules.specs.declared.tie_rule.TieRule.{TieRule}
 use Rattle.tie_rules.specs.Lanes.{lane, noLane, laneOfByte, counted}
 use Rattle.tie_rules.proofs.Lanes.{lanes-at, in-lane}
 use Rattle.base_builder.specs.declared.builder.ConsensusBaseBuilder.{ConsensusBaseBuilder}
-use Rattle.base_builder.specs.Observation.{movedBy, valueOf, countOf}
+use Rattle.lane_sums.specs.Observation.{movedBy, valueOf, countOf}
 use Rattle.base_builder.specs.Builder.{total, cleared, newAt, withTieRule, resetOf, sumOf, observed, entryOf, isFull, addedBy, added, fullCount}
 use Rattle.base_builder.specs.History.{Event, add, reset, setTieRule, step, run, after}
 use Rattle.base_builder_laws.specs.Counted.{Observation, countedSince, valuesOf, kahan, timesOf}

@@ -11,8 +11,8 @@ use Rattle.float.specs.Methods.{absOf}
 use Rattle.elementary.specs.Ln.{lnOf}
 use Rattle.phred.specs.Phred.{lnZero}
 use Rattle.rate_tables.specs.Adjusted.{adjustedTables}
-use Rattle.base_builder.specs.declared.observation.Sum.{Sum}
-use Rattle.base_builder.specs.Observation.{movedBy}
+use Rattle.lane_sums.specs.declared.observation.Sum.{Sum}
+use Rattle.lane_sums.specs.Observation.{movedBy}
 use Rattle.base_builder.specs.Builder.{entryOf}
 
 -- at post-UMI rate 0 the matching lane gets -infinity at this quality byte exactly where it is 27 or more

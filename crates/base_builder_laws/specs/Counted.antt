@@ -9,8 +9,8 @@ use Rattle.float.specs.Ops.{plusZero}
 use Rattle.words.specs.Choice.{if_then_else_}
 use Rattle.rate_tables.specs.declared.adjusted.AdjustedProbabilityTables.{AdjustedProbabilityTables}
 use Rattle.tie_rules.specs.Lanes.{noLane, laneOfByte}
-use Rattle.base_builder.specs.declared.observation.Sum.{Sum}
-use Rattle.base_builder.specs.Observation.{movedBy, valueOf}
+use Rattle.lane_sums.specs.declared.observation.Sum.{Sum}
+use Rattle.lane_sums.specs.Observation.{movedBy, valueOf}
 use Rattle.base_builder.specs.Builder.{entryOf, fullCount}
 use Rattle.base_builder.specs.History.{Event, add, reset, setTieRule}
 

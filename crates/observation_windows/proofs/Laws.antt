@@ -11,7 +11,7 @@ use Rattle.words.proofs.Listed.{level-at}
 use Rattle.tie_rules.specs.Lanes.{lanes, noLane, laneOfByte}
 use Rattle.tie_rules.proofs.Lanes.{four, in-lane}
 use Rattle.base_builder.specs.declared.builder.ConsensusBaseBuilder.{ConsensusBaseBuilder}
-use Rattle.base_builder.specs.Observation.{valueOf}
+use Rattle.lane_sums.specs.Observation.{valueOf}
 use Rattle.base_builder.specs.Builder.{entryOf, observed, isFull, addedBy, added}
 use Rattle.observation_windows.specs.Windows.{windowOf, windowEntry, windowsOf, windowAt, windowObserved, windowAdded}
 

@@ -17,7 +17,7 @@ use Rattle.words.specs.Lists.{listed}
 use Rattle.tie_rules.specs.Lanes.{lanes, laneOfByte, baseOf}
 use Rattle.tie_rules.specs.Ties.{fgbioTie, fgbioStep, scan, fgbioUniqueMaxIndex, notMinusInfinity, uniqueMaxIndexWith}
 use Rattle.rate_tables.specs.declared.adjusted.AdjustedEntry.{AdjustedEntry}
-use Rattle.base_builder.specs.Observation.{movedBy, valueOf, countOf}
+use Rattle.lane_sums.specs.Observation.{movedBy, valueOf, countOf}
 use Rattle.base_builder.specs.Builder.{total, cleared, newAt, resetOf, observed, isFull, addedBy}
 use Rattle.umi_column.specs.Dna.{toAsciiUppercase, isDnaBase}
 use Rattle.umi_column.specs.Verdicts.{isMixed, verdictOf}

@@ -10,7 +10,7 @@ use Rattle.words.specs.Lists.{byteAt}
 use Rattle.words.specs.Lists.{listed}
 use Rattle.tie_rules.specs.Lanes.{lanes, baseOf, laneOfByte}
 use Rattle.tie_rules.specs.Ties.{fgbioTie, fgbioStep, scan, fgbioUniqueMaxIndex, notMinusInfinity, uniqueMaxIndexWith}
-use Rattle.base_builder.specs.Observation.{movedBy, valueOf, countOf}
+use Rattle.lane_sums.specs.Observation.{movedBy, valueOf, countOf}
 use Rattle.base_builder.specs.Builder.{newAt, cleared, resetOf, total, isFull, observed, addedBy}
 use Rattle.umi_column.specs.Dna.{toAsciiUppercase, isDnaBase}
 use Rattle.umi_column.specs.Verdicts.{isMixed, verdictOf}

@@ -11,7 +11,7 @@ use lib.ListN.{length}
 use Rattle.words.proofs.Cases.{test, choice}
 use Rattle.tie_rules.specs.Lanes.{lanes, noLane, laneOfByte}
 use Rattle.tie_rules.proofs.Lanes.{in-lane}
-use Rattle.base_builder.specs.declared.observation.LaneSums.{LaneSums}
+use Rattle.lane_sums.specs.declared.observation.LaneSums.{LaneSums}
 use Rattle.base_builder.specs.declared.builder.ConsensusBaseBuilder.{ConsensusBaseBuilder}
 use Rattle.base_builder.specs.Builder.{total, cleared, resetOf, observed, fullCount, isFull, addedBy}
 use Rattle.base_builder.proofs.Totals.{total-more}

@@ -8,8 +8,8 @@ use Rattle.words.specs.Choice.{if_then_else_}
 use Rattle.tie_rules.specs.declared.tie_rule.TieRule.{TieRule}
 use Rattle.tie_rules.specs.Lanes.{laneOfByte, isBase, baseOf}
 use Rattle.tie_rules.specs.Ties.{uniqueMaxIndexWith}
-use Rattle.base_builder.specs.declared.observation.LaneSums.{LaneSums}
-use Rattle.base_builder.specs.Observation.{movedLanes}
+use Rattle.lane_sums.specs.declared.observation.LaneSums.{LaneSums}
+use Rattle.lane_sums.specs.Observation.{movedLanes}
 use Rattle.umi_column.specs.Dna.{isDnaBase}
 
 -- before the first byte

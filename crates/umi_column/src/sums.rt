@@ -1,8 +1,8 @@
 // Kahan's sums of a column's four lanes with no counts: all that the column's byte needs.
 ghost use mathlib.Core.Path.{_≡_};
 ghost use Rattle.umi_column.specs.Sums.{noSums, summedBy};
-use base_builder::LaneSums;
-use base_builder::moved_lanes;
+use lane_sums::LaneSums;
+use lane_sums::moved_lanes;
 use tie_rules::is_base;
 use tie_rules::lane_by_bits;
 

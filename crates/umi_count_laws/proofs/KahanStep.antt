@@ -4,8 +4,8 @@ use Prim.Native.Nat.{ℕ, _+_, _*_, _≤_, _<_}
 use native.Mathlib.Nat.{mul-le-mul-right}
 use native.Mathlib.Omega.{arith}
 use lib.Ieee.{Float}
-use Rattle.base_builder.specs.declared.observation.Sum.{Sum}
-use Rattle.base_builder.specs.Observation.{movedBy}
+use Rattle.lane_sums.specs.declared.observation.Sum.{Sum}
+use Rattle.lane_sums.specs.Observation.{movedBy}
 use Rattle.umi_count_laws.proofs.Places.{Within, Fine, At, unit, base, added, less}
 
 -- A lane and its compensation after n bytes that take off f in all: the lane is within 5 steps for each byte, the compensation within 3 of 0.

@@ -22,7 +22,7 @@ use Rattle.tie_rules.specs.declared.tie_rule.TieRule.the-variants.{FgbioCompat}
 use Rattle.tie_rules.specs.Lanes.{lane}
 use Rattle.tie_rules.specs.Ties.{uniqueMaxIndexWith}
 use Rattle.tie_rules.proofs.Clear.{all-clear}
-use Rattle.base_builder.specs.Observation.{sumAt}
+use Rattle.lane_sums.specs.Observation.{sumAt}
 use Rattle.base_builder_laws.proofs.Named.{named}
 use Rattle.observation_windows.specs.Windows.{windowOf}
 use Rattle.umi_column.specs.Sums.{noSums, summedAll}

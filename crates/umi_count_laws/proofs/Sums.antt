@@ -12,9 +12,9 @@ use Rattle.words.specs.Choice.{if_then_else_}
 use Rattle.words.proofs.Cases.{test}
 use Rattle.tie_rules.specs.Lanes.{lanes, noLane, laneOfByte, isBase}
 use Rattle.tie_rules.proofs.Lanes.{four, lanes-at, in-lane}
-use Rattle.base_builder.specs.declared.observation.Sum.{Sum}
-use Rattle.base_builder.specs.Observation.{movedBy, sumAt, valueOf}
-use Rattle.base_builder.specs.declared.observation.LaneSums.{LaneSums}
+use Rattle.lane_sums.specs.declared.observation.Sum.{Sum}
+use Rattle.lane_sums.specs.Observation.{movedBy, sumAt, valueOf}
+use Rattle.lane_sums.specs.declared.observation.LaneSums.{LaneSums}
 use Rattle.observation_windows.specs.Windows.{windowOf}
 use Rattle.observation_windows.proofs.Laws.{window-at}
 use Rattle.umi_column.specs.Sums.{noSums, summedBy, summedAll}

@@ -13,7 +13,7 @@ use Rattle.base_builder.specs.declared.builder.ConsensusBaseBuilder.{ConsensusB
 use Rattle.umi_column.specs.Calls.{namedByte}
 use Rattle.umi_column.proofs.SumLaws.{sums-byte}
 use Rattle.tie_rules.specs.declared.tie_rule.TieRule.{TieRule}
-use Rattle.base_builder.specs.declared.observation.LaneSums.{LaneSums}
+use Rattle.lane_sums.specs.declared.observation.LaneSums.{LaneSums}
 use Rattle.observation_windows.specs.Windows.{windowOf}
 use Rattle.umi_column.specs.Sums.{summedBy, summedAll}
 use Rattle.umi_rows.specs.Rows.{bytesAt, columnsAt}

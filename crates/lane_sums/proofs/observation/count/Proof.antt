@@ -1,9 +1,9 @@
 -- `count`: each way through the code is a way of the definition. Assumes nothing.
 use borrow.Author.Tests.{eq-eqb, ne-eqb}
-use Rattle.base_builder.specs.Observation.{countOf}
+use Rattle.lane_sums.specs.Observation.{countOf}
 use borrow.Author.Needs.{needs}
-use Rattle.base_builder.proofs.observation.count.Statement.{statement}
-use Rattle.base_builder.proofs.observation.count.Tie as tie
+use Rattle.lane_sums.proofs.observation.count.Statement.{statement}
+use Rattle.lane_sums.proofs.observation.count.Tie as tie
 
 returns : tie.Need-returns
 unfolding countOf

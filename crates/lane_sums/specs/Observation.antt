@@ -5,8 +5,8 @@ use lib.Ieee.{Float}
 use Rattle.float.specs.Ops.{_⊕_, _⊖_}
 use Rattle.words.specs.Choice.{if_then_else_}
 use Rattle.tie_rules.specs.Lanes.{lanes, lane}
-use Rattle.base_builder.specs.declared.observation.Sum.{Sum}
-use Rattle.base_builder.specs.declared.observation.LaneSums.{LaneSums}
+use Rattle.lane_sums.specs.declared.observation.Sum.{Sum}
+use Rattle.lane_sums.specs.declared.observation.LaneSums.{LaneSums}
 
 -- Kahan's step: y = value - compensation; t = lane + y; compensation = (t - lane) - y; lane = t
 unfoldable pub movedBy : Float → Sum → Sum

@@ -1,8 +1,8 @@
 -- `value`: each way through the code is a way of the definition. Assumes nothing.
 use borrow.Author.Tests.{eq-eqb, ne-eqb}
-use Rattle.base_builder.specs.Observation.{valueOf}
-use Rattle.base_builder.proofs.observation.value.Statement.{statement}
-use Rattle.base_builder.proofs.observation.value.Tie as tie
+use Rattle.lane_sums.specs.Observation.{valueOf}
+use Rattle.lane_sums.proofs.observation.value.Statement.{statement}
+use Rattle.lane_sums.proofs.observation.value.Tie as tie
 
 returns : tie.Need-returns
 unfolding valueOf

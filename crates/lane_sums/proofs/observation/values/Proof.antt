@@ -1,8 +1,8 @@
 -- `values`: lane by lane. Assumes nothing.
 use borrow.Author.Needs.{needs}
 use Rattle.tie_rules.specs.Lanes.{lanes}
-use Rattle.base_builder.proofs.observation.values.Statement.{statement}
-use Rattle.base_builder.proofs.observation.values.Tie as tie
+use Rattle.lane_sums.proofs.observation.values.Statement.{statement}
+use Rattle.lane_sums.proofs.observation.values.Tie as tie
 
 returns : tie.Need-returns
 unfolding lanes

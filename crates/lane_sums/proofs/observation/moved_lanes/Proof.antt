@@ -1,8 +1,8 @@
 -- `moved_lanes`: lane by lane. Assumes nothing.
 use borrow.Author.Needs.{needs}
 use Rattle.tie_rules.specs.Lanes.{lanes}
-use Rattle.base_builder.proofs.observation.moved_lanes.Statement.{statement}
-use Rattle.base_builder.proofs.observation.moved_lanes.Tie as tie
+use Rattle.lane_sums.proofs.observation.moved_lanes.Statement.{statement}
+use Rattle.lane_sums.proofs.observation.moved_lanes.Tie as tie
 
 returns : tie.Need-returns
 unfolding lanes

@@ -2,7 +2,7 @@
 ghost use mathlib.Core.Path.{_≡_};
 ghost use Prim.Native.Nat.{_<_};
 ghost use Rattle.tie_rules.specs.Lanes.{lanes, lane};
-ghost use Rattle.base_builder.specs.Observation.{movedBy, sumAt, movedLanes, valueOf, countOf};
+ghost use Rattle.lane_sums.specs.Observation.{movedBy, sumAt, movedLanes, valueOf, countOf};
 
 // A lane's running sum and its compensation.
 pub struct Sum {
@@ -71,7 +71,7 @@ fn value(correct: f64, error: f64, k: usize, i: usize) -> f64
 }
 
 // The same of each lane.
-pub(crate) fn values(correct: f64, error: f64, k: usize) -> [f64; 4]
+pub fn values(correct: f64, error: f64, k: usize) -> [f64; 4]
     ensures { λ r. ⌜ r ≡ lanes (valueOf correct error k) ⌝ }
 {
     [
@@ -83,7 +83,7 @@ pub(crate) fn values(correct: f64, error: f64, k: usize) -> [f64; 4]
 }
 
 // The count of lane i after lane k was observed.
-pub(crate) fn count(n: u32, k: usize, i: usize) -> u32
+pub fn count(n: u32, k: usize, i: usize) -> u32
     ensures { λ r. ⌜ r ≡ countOf n k i ⌝ }
 {
     if i == k {
