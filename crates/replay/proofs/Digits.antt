@@ -9,7 +9,7 @@ use lib.Dec.{lit<}
 use lib.ListN.{length, drop, getD, drop-of-length-le}
 use lib.Seq.{drop-cons}
 use borrow.Author.Tests.{lt-ltb, le-ltb}
-use Rattle.replay.specs.declared.hex.Written.the-variants.{Number, NoNumber}
+use Rattle.replay.specs.declared.hex.MaybeNumber.the-variants.{Number, NoNumber}
 use Rattle.replay.specs.Hex.{digitOf, hexFrom}
 
 module _ (digits : List ℕ) (i n : ℕ) where

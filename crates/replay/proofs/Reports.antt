@@ -10,7 +10,7 @@ use borrow.Author.Tests.{leb-false, eq-eqb, ne-eqb}
 use Rattle.words.specs.Choice.{if_then_else_}
 use Rattle.words.proofs.Cases.{test}
 use Rattle.lent_bytes.specs.Buffer.{lengthWritten, written}
-use Rattle.replay.specs.declared.lines.Verdict.the-variants.{Equal, Differs, NotAnAnswer}
+use Rattle.replay.specs.declared.lines.LineVerdict.the-variants.{Equal, Differs, NotAnAnswer}
 use Rattle.words.specs.Lists.{sameBytes}
 use Rattle.replay.specs.Builders.{besideScript}
 

@@ -12,14 +12,14 @@ areDigits [] = true
 areDigits (b ∷ bs) = ltb (digitOf b) 16 && areDigits bs
 
 -- a byte of two digits, the high digit first
-abbrev pub byteOf : ℕ → ℕ → ℕ
-byteOf high low = 16 * digitOf high + digitOf low
+abbrev pub byteOfDigits : ℕ → ℕ → ℕ
+byteOfDigits high low = 16 * digitOf high + digitOf low
 
 -- the bytes of digits
-unfoldable pub bytesOf : List ℕ → List ℕ
-bytesOf [] = []
-bytesOf (high ∷ []) = []
-bytesOf (high ∷ low ∷ digits) = byteOf high low ∷ bytesOf digits
+unfoldable pub bytesOfDigits : List ℕ → List ℕ
+bytesOfDigits [] = []
+bytesOfDigits (high ∷ []) = []
+bytesOfDigits (high ∷ low ∷ digits) = byteOfDigits high low ∷ bytesOfDigits digits
 
 -- a field: a space, then digits
 unfoldable pub isField : List ℕ → Bool
@@ -27,4 +27,4 @@ isField field = eqb (getD field 0 0) 32 && areDigits (drop 1 field)
 
 -- its bytes
 abbrev pub fieldBytes : List ℕ → List ℕ
-fieldBytes field = bytesOf (drop 1 field)
+fieldBytes field = bytesOfDigits (drop 1 field)

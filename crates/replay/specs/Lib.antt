@@ -1,3 +1,4 @@
+pub mod Functions
 pub mod Hex
 pub mod Answers
 pub mod Fields

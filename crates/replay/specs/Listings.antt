@@ -8,20 +8,20 @@ use Rattle.words.specs.Lists.{sameBytes}
 use Rattle.lent_bytes.specs.Buffer.{lengthWritten, written}
 use Rattle.words.specs.Choice.{if_then_else_}
 use Rattle.column_listing.specs.Listing.{listingOf}
-use Rattle.replay.specs.declared.lines.Verdict.{Verdict}
-use Rattle.replay.specs.declared.lines.Verdict.the-variants.{Equal, Differs, NotAnAnswer}
+use Rattle.replay.specs.declared.lines.LineVerdict.{LineVerdict}
+use Rattle.replay.specs.declared.lines.LineVerdict.the-variants.{Equal, Differs, NotAnAnswer}
 use Rattle.replay.specs.Fields.{isField, fieldBytes}
 
 -- the fields of a line: 130 bytes of the file, 514 of the text; of each, 2 of its length
-abbrev pub fileIn : List ℕ → List ℕ
-fileIn line = take 261 (drop 1 line)
+abbrev pub fileFieldIn : List ℕ → List ℕ
+fileFieldIn line = take 261 (drop 1 line)
 
-abbrev pub textIn : List ℕ → List ℕ
-textIn line = take 1029 (drop 262 line)
+abbrev pub textFieldIn : List ℕ → List ℕ
+textFieldIn line = take 1029 (drop 262 line)
 
 -- the form of a line: a letter, the fields, a newline
 unfoldable pub isListingLine : List ℕ → Bool
-isListingLine line = eqb (length line) 1292 && (isField (fileIn line) && (isField (textIn line) && eqb (getD line 1291 0) 10))
+isListingLine line = eqb (length line) 1292 && eqb (getD line 1291 0) 10 && isField (fileFieldIn line) && isField (textFieldIn line)
 
 -- the length that a field's bytes start with, the low byte first
 abbrev pub sizeOf : List ℕ → ℕ
@@ -31,28 +31,28 @@ sizeOf bytes = getD bytes 0 0 + 256 * getD bytes 1 0
 abbrev pub heldIn : List ℕ → List ℕ
 heldIn bytes = take (sizeOf bytes) (drop 2 bytes)
 
--- what ours is printed into
-abbrev pub room : List ℕ
-room = replicate 512 0
+-- what our listing is printed into
+abbrev pub listingRoom : List ℕ
+listingRoom = replicate 512 0
 
--- of a line's letter, our reply, what the room then holds, and the line's text
-abbrev pub besideText : ℕ → ℕ → List ℕ → List ℕ → Verdict
+-- of a line's letter, our reply, what the listingRoom then holds, and the line's text
+abbrev pub besideText : ℕ → ℕ → List ℕ → List ℕ → LineVerdict
 besideText letter n held text =
     if eqb n (length text) && sameBytes (take n held) text then Equal letter
     else Differs letter
 
 -- of a file's listing and the line's text
-abbrev pub besideListing : ℕ → List ℕ → List ℕ → Verdict
-besideListing letter listing text = besideText letter (lengthWritten listing room) (written listing room) text
+abbrev pub besideListing : ℕ → List ℕ → List ℕ → LineVerdict
+besideListing letter listing text = besideText letter (lengthWritten listing listingRoom) (written listing listingRoom) text
 
 -- of the bytes of the two fields; a length that is above what a field holds gives no answer
-abbrev pub besideFields : ℕ → List ℕ → List ℕ → Verdict
+abbrev pub besideFields : ℕ → List ℕ → List ℕ → LineVerdict
 besideFields letter file text =
     if leb (sizeOf file) 128 && leb (sizeOf text) 512 then besideListing letter (listingOf (heldIn file)) (heldIn text)
     else NotAnAnswer
 
 -- of a line of a listing
-unfoldable pub listingLine : ℕ → List ℕ → Verdict
+unfoldable pub listingLine : ℕ → List ℕ → LineVerdict
 listingLine letter line =
-    if isListingLine line then besideFields letter (fieldBytes (fileIn line)) (fieldBytes (textIn line))
+    if isListingLine line then besideFields letter (fieldBytes (fileFieldIn line)) (fieldBytes (textFieldIn line))
     else NotAnAnswer

@@ -2,23 +2,23 @@
 ghost use mathlib.Core.Path.{_≡_};
 ghost use Prim.Native.Nat.{_<_};
 ghost use Rattle.replay.specs.Counts.{counters, oneMore, countedOf};
-use crate::lines::Verdict;
+use crate::lines::LineVerdict;
 
 // The answers at the letter, and those that are equal 256 places further on.
 pub const COUNTERS: usize = 512;
 
 // What the verdict on a line adds.
-pub fn count(counts: &mut [u64; COUNTERS], verdict: Verdict)
+pub fn count_line(counts: &mut [u64; COUNTERS], verdict: LineVerdict)
     ensures { λ _. ⌜ now (counts .exit) ≡ countedOf (now (counts .entry)) verdict ⌝ }
 {
     match verdict {
-        Verdict::End => {}
-        Verdict::NotAnAnswer => {}
-        Verdict::Equal(letter) => {
+        LineVerdict::End => {}
+        LineVerdict::NotAnAnswer => {}
+        LineVerdict::Equal(letter) => {
             one_more(counts, letter as usize);
             one_more(counts, letter as usize + 256);
         }
-        Verdict::Differs(letter) => {
+        LineVerdict::Differs(letter) => {
             one_more(counts, letter as usize);
         }
     }

@@ -3,28 +3,28 @@ ghost use mathlib.Core.Path.{_≡_};
 ghost use Rattle.replay.specs.Hex.{digitOf, hexOf};
 
 // The number that digits write, where all of them are digits and there are at most 16.
-pub enum Written {
+pub enum MaybeNumber {
     Number(u64),
     NoNumber,
 }
 
-pub fn number(digits: &[u8]) -> Written
+pub fn hex_number(digits: &[u8]) -> MaybeNumber
     ensures { λ r. ⌜ r ≡ hexOf (now (digits .entry)) ⌝ }
 {
     if 16 < digits.len() {
-        return Written::NoNumber;
+        return MaybeNumber::NoNumber;
     }
     let mut n: u64 = 0;
     let mut i = 0;
     while i < digits.len() {
         let d = digit(digits[i]);
         if 15 < d {
-            return Written::NoNumber;
+            return MaybeNumber::NoNumber;
         }
         n = 16 * n + d;
         i += 1;
     }
-    Written::Number(n)
+    MaybeNumber::Number(n)
 }
 
 // The value of a digit, and 16 for a byte that is none.

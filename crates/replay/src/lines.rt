@@ -2,19 +2,20 @@
 ghost use mathlib.Core.Path.{_≡_};
 ghost use Prim.Native.Nat.{_≤_};
 ghost use lib.ListN.{length};
-ghost use Rattle.replay.specs.Lines.{fieldOf, noFields, numbersOf, answerLine, verdictOf};
+ghost use Rattle.replay.specs.Lines.{fieldOf, noFields, numbersOf, answerLine, lineVerdictOf};
 use crate::answers;
 use crate::builders;
+use crate::functions;
+use crate::functions::Function;
+use crate::functions::LineKind;
 use crate::hex;
-use crate::hex::Written;
+use crate::hex::MaybeNumber;
 use crate::listings;
-use line_kinds::Function;
-use line_kinds::Kind;
 
 // No line has more numbers.
 pub const NUMBERS: usize = 5;
 
-pub enum Verdict {
+pub enum LineVerdict {
     // No line is left.
     End,
     // The letter of the line, whose answer is equal to ours or not.
@@ -24,39 +25,39 @@ pub enum Verdict {
 }
 
 // Works the answer of a line out anew, and compares.
-pub fn judge(line: &[u8]) -> Verdict
-    ensures { λ r. ⌜ r ≡ verdictOf (now (line .entry)) ⌝ }
+pub fn judge_line(line: &[u8]) -> LineVerdict
+    ensures { λ r. ⌜ r ≡ lineVerdictOf (now (line .entry)) ⌝ }
 {
     if line.len() == 0 {
-        return Verdict::End;
+        return LineVerdict::End;
     }
     let letter = line[0];
-    let kind = line_kinds::kind_of(letter);
+    let kind = functions::kind_of(letter);
     match kind {
-        Kind::Answer(function) => answer_line(letter, function, line),
-        Kind::Builder => builders::builder_line(letter, line),
-        Kind::Listing => listings::listing_line(letter, line),
-        Kind::Unknown => Verdict::NotAnAnswer,
+        LineKind::FunctionLine(function) => answer_line(letter, function, line),
+        LineKind::BuilderLine => builders::builder_line(letter, line),
+        LineKind::ListingLine => listings::listing_line(letter, line),
+        LineKind::UnknownLine => LineVerdict::NotAnAnswer,
     }
 }
 
 // A line of a function's arguments and its result.
-fn answer_line(letter: u8, function: Function, line: &[u8]) -> Verdict
+fn answer_line(letter: u8, function: Function, line: &[u8]) -> LineVerdict
     ensures { λ r. ⌜ r ≡ answerLine letter function (now (line .entry)) ⌝ }
 {
-    let last = line_kinds::arguments(function);
+    let last = functions::arguments(function);
     let fields = numbers(line, last + 1);
     let read = fields.numbers;
     if !fields.formed {
-        return Verdict::NotAnAnswer;
+        return LineVerdict::NotAnAnswer;
     }
-    let Written::Number(ours) = answers::answer(function, read) else {
-        return Verdict::NotAnAnswer;
+    let MaybeNumber::Number(ours) = answers::our_answer(function, read) else {
+        return LineVerdict::NotAnAnswer;
     };
     if ours == read[last] {
-        return Verdict::Equal(letter);
+        return LineVerdict::Equal(letter);
     }
-    Verdict::Differs(letter)
+    LineVerdict::Differs(letter)
 }
 
 // The numbers of a line, and zeros after them, where the line is in the form.
@@ -83,7 +84,7 @@ fn numbers(line: &[u8], count: usize) -> Fields
     while 0 < left {
         left -= 1;
         let start = 17 * left + 1;
-        let Written::Number(n) = field(&line[start..start + 17]) else {
+        let MaybeNumber::Number(n) = field(&line[start..start + 17]) else {
             return no_fields();
         };
         numbers[left] = n;
@@ -104,12 +105,12 @@ fn no_fields() -> Fields
 }
 
 // A space and 16 digits.
-fn field(bytes: &[u8]) -> Written
+fn field(bytes: &[u8]) -> MaybeNumber
     requires { ⌜ length (now bytes) ≡ 17 ⌝ }
     ensures { λ r. ⌜ r ≡ fieldOf (now (bytes .entry)) ⌝ }
 {
     if bytes[0] != b' ' {
-        return Written::NoNumber;
+        return MaybeNumber::NoNumber;
     }
-    hex::number(&bytes[1..17])
+    hex::hex_number(&bytes[1..17])
 }

@@ -3,63 +3,51 @@ ghost use mathlib.Core.Path.{_≡_};
 ghost use Prim.Native.Nat.{_≤_};
 ghost use lib.ListN.{length};
 ghost use Rattle.column_listing.specs.Listing.{listingOf};
-ghost use Rattle.replay.specs.Listings.{sizeOf, isListingLine, besideListing, besideFields, listingLine};
-use crate::fields::is_field;
+ghost use Rattle.replay.specs.Listings.{sizeOf, besideListing, besideFields, listingLine};
 use crate::fields::read_field;
-use crate::lines::Verdict;
+use crate::lines::LineVerdict;
 use lent_bytes::same_bytes;
 
 // How many bytes the text of a line has at most.
 const TEXT: usize = 512;
 
-// Lists the file of a line, and compares the texts.
-pub fn listing_line(letter: u8, line: &[u8]) -> Verdict
+// Lists the file of a line, and compares the texts. The form of a line: a letter, two fields, a
+// newline.
+pub fn listing_line(letter: u8, line: &[u8]) -> LineVerdict
     ensures { λ r. ⌜ r ≡ listingLine letter (now (line .entry)) ⌝ }
 {
-    if !is_listing_line(line) {
-        return Verdict::NotAnAnswer;
+    if line.len() != 1292 {
+        return LineVerdict::NotAnAnswer;
     }
     let mut file = [0u8; 130];
     let mut text = [0u8; 514];
-    read_field(&line[1..262], &mut file);
-    read_field(&line[262..1291], &mut text);
-    beside(letter, &file, &text)
-}
-
-// The form of a line: a letter, two fields, a newline.
-fn is_listing_line(line: &[u8]) -> bool
-    ensures { λ r. ⌜ r ≡ isListingLine (now (line .entry)) ⌝ }
-{
-    if line.len() != 1292 {
-        return false;
+    let formed = (line[1291] == b'\n')
+        & read_field(&line[1..262], &mut file)
+        & read_field(&line[262..1291], &mut text);
+    if !formed {
+        return LineVerdict::NotAnAnswer;
     }
-    if !is_field(&line[1..262]) {
-        return false;
-    }
-    if !is_field(&line[262..1291]) {
-        return false;
-    }
-    line[1291] == b'\n'
+    beside_fields(letter, &file, &text)
 }
 
 // The two fields, each a length and as many bytes after it.
-fn beside(letter: u8, file: &[u8], text: &[u8]) -> Verdict
+fn beside_fields(letter: u8, file: &[u8], text: &[u8]) -> LineVerdict
     requires { ⌜ (length (now file) ≡ 130) × (length (now text) ≡ 514) ⌝ }
     ensures { λ r. ⌜ r ≡ besideFields letter (now (file .entry)) (now (text .entry)) ⌝ }
 {
-    let n = size(file);
+    let n = field_size(file);
     if 128 < n {
-        return Verdict::NotAnAnswer;
+        return LineVerdict::NotAnAnswer;
     }
-    let m = size(text);
+    let m = field_size(text);
     if 512 < m {
-        return Verdict::NotAnAnswer;
+        return LineVerdict::NotAnAnswer;
     }
     beside_text(letter, &file[2..n + 2], &text[2..m + 2])
 }
 
 // The length that a field starts with, the low byte first.
-fn size(bytes: &[u8]) -> usize
+fn field_size(bytes: &[u8]) -> usize
     requires { ⌜ 2 ≤ length (now bytes) ⌝ }
     ensures { λ r. ⌜ r ≡ sizeOf (now (bytes .entry)) ⌝ }
 {
@@ -67,17 +55,17 @@ fn size(bytes: &[u8]) -> usize
 }
 
 // Our listing of a file beside the line's text.
-fn beside_text(letter: u8, file: &[u8], text: &[u8]) -> Verdict
+fn beside_text(letter: u8, file: &[u8], text: &[u8]) -> LineVerdict
     requires { ⌜ length (now text) ≤ 512 ⌝ }
     ensures { λ r. ⌜ r ≡ besideListing letter (listingOf (now (file .entry))) (now (text .entry)) ⌝ }
 {
     let mut ours = [0u8; TEXT];
     let n = column_listing::print(file, &mut ours);
     if n != text.len() {
-        return Verdict::Differs(letter);
+        return LineVerdict::Differs(letter);
     }
     if same_bytes(&ours[..n], text) {
-        return Verdict::Equal(letter);
+        return LineVerdict::Equal(letter);
     }
-    Verdict::Differs(letter)
+    LineVerdict::Differs(letter)
 }

@@ -4,6 +4,7 @@ mod answers;
 mod builders;
 mod counts;
 mod fields;
+mod functions;
 mod hex;
 mod lines;
 mod listings;
@@ -11,12 +12,12 @@ mod listings;
 ghost use Prim.Native.Nat.{_≤_};
 ghost use lib.ListN.{length};
 ghost use Rattle.io.specs.Counts.{Counts as Within};
-ghost use Rattle.line_kinds.specs.Functions.{longest};
+ghost use Rattle.replay.specs.Functions.{longestLine};
 use counts::COUNTERS;
+use functions::LONGEST_LINE;
 use libc::STDIN_FILENO;
 use libc::STDOUT_FILENO;
-use line_kinds::LONGEST;
-use lines::Verdict;
+use lines::LineVerdict;
 
 // A proved loop has to end, and nothing says that an input does. No stored list is this long.
 const MOST_LINES: u64 = 1_000_000;
@@ -25,30 +26,30 @@ fn main() {
     let mut counts = [0; COUNTERS];
     let mut lines: u64 = 0;
     while lines < MOST_LINES {
-        let verdict = next();
+        let verdict = next_line();
         match verdict {
-            Verdict::End => {
+            LineVerdict::End => {
                 break;
             }
-            Verdict::NotAnAnswer => {
+            LineVerdict::NotAnAnswer => {
                 print_place(lines + 1);
                 return;
             }
-            Verdict::Equal(_) => {}
-            Verdict::Differs(_) => {}
+            LineVerdict::Equal(_) => {}
+            LineVerdict::Differs(_) => {}
         }
-        counts::count(&mut counts, verdict);
+        counts::count_line(&mut counts, verdict);
         lines += 1;
     }
     print_all(&counts);
 }
 
 // Reads a line and judges it. A line that differs is written out.
-fn next() -> Verdict {
-    let mut room = [0u8; LONGEST];
+fn next_line() -> LineVerdict {
+    let mut room = [0u8; LONGEST_LINE];
     let n = read_line(&mut room);
-    let verdict = lines::judge(&room[..n]);
-    if let Verdict::Differs(_) = verdict {
+    let verdict = lines::judge_line(&room[..n]);
+    if let LineVerdict::Differs(_) = verdict {
         io::write_all(STDOUT_FILENO, b"differs: ");
         io::write_all(STDOUT_FILENO, &room[..n]);
     }
@@ -58,14 +59,14 @@ fn next() -> Verdict {
 // Reads a line to the start of room, and answers how many bytes came: the letter and the space, and
 // then as many as a line with that letter has. No bytes are the end of the list.
 fn read_line(room: &mut [u8]) -> usize
-    requires { ⌜ longest ≤ length (now room) ⌝ }
+    requires { ⌜ longestLine ≤ length (now room) ⌝ }
     ensures { λ r. ⌜ Within r (now (room .exit)) ⌝ }
 {
     let start = io::read_full(STDIN_FILENO, &mut room[..2]);
     if start < 2 {
         return start;
     }
-    let end = line_kinds::line_length(room[0]);
+    let end = functions::line_length(room[0]);
     2 + io::read_full(STDIN_FILENO, &mut room[2..end])
 }
 

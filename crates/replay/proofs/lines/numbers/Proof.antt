@@ -6,7 +6,7 @@ use lib.ListN.{length, take, drop, length-set}
 use denote.Ref.{now}
 use borrow.Author.Needs.{needs}
 use borrow.Author.Tests.{eq-eqb, ne-eqb}
-use Rattle.replay.specs.Lines.{fieldOf, startOf, fieldsFrom, numbersOf}
+use Rattle.replay.specs.Lines.{fieldOf, fieldStart, fieldsFrom, numbersOf}
 use Rattle.replay.proofs.Numbers.{goes-on, stops}
 use Rattle.replay.proofs.lines.numbers.Statement.{statement}
 use Rattle.replay.proofs.lines.numbers.Tie as tie
@@ -18,9 +18,12 @@ abbrev μ-loop : tie.MeasureT-loop
 μ-loop line count end numbers₀ left₀ numbers left = left
 
 -- the field before those that are read
-field-is : (c : tie.After-field Inv-loop μ-loop) → c .field .result ≡ fieldOf (take 17 (drop (startOf (c .before .before .before .loop .left - 1)) (now (c .before .before .before .before .before .before .before .before .args .line))))
+field-is : (c : tie.After-field Inv-loop μ-loop) →
+    let turn = c .before .before .before in
+    let args = turn .before .before .before .before .before .args in
+    c .field .result ≡ fieldOf (take 17 (drop (fieldStart (turn .loop .left - 1)) (now (args .line))))
 field-is c =
-    let start = startOf (c .before .before .before .loop .left - 1) in
+    let start = fieldStart (c .before .before .before .loop .left - 1) in
     let h : start + 17 - start ≡ 17 = omega arith in
     rw h at (c .field .ensures)
 

@@ -1,48 +1,61 @@
 -- `listing_line`: the form, the bytes of the two fields, then the texts. Assumes nothing.
-use mathlib.Core.Path.{sym, _∙_}
-use native.Mathlib.Omega.{arith}
+use mathlib.Core.Path.{_≡_}
+use Prim.Native.Nat.{ℕ}
+use mathlib.Core.Bool.{Bool, _&&_}
+use mathlib.Core.List.{List}
+use lib.Dec.{eqb}
+use lib.ListN.{getD}
 use borrow.Author.Needs.{needs}
-use borrow.Author.Tests.{not-true, not-false}
-use Rattle.replay.specs.Listings.{listingLine}
-use Rattle.replay.proofs.Forms.{FormedListing, formed-listing}
+use borrow.Author.Tests.{eq-eqb, ne-eqb, not-true, not-false}
+use Rattle.words.proofs.Cases.{both}
+use Rattle.replay.specs.Listings.{isListingLine, listingLine}
 use Rattle.replay.proofs.listings.listing_line.Statement.{statement}
 use Rattle.replay.proofs.listings.listing_line.Tie as tie
 
 returns : tie.Need-returns
-unfolding listingLine
-returns c = rw (← c .before .is-listing-line .ensures, not-true (c .before .is-listing-line .result) (c .if1 .taken))
+unfolding isListingLine listingLine
+returns c = rw (ne-eqb _ _ (c .if1 .taken))
 
--- the line is in the form
-form : (c : tie.Else1) → FormedListing (c .before .before .before .args .line .now)
+abbrev line : tie.After-read-field → List ℕ
+line c =
+    let args = c .before .before .before .before .before .before .args in
+    args .line .now
+
+-- what the code tests: the newline, then each field
+abbrev newline : tie.After-read-field → Bool
+newline c = eqb (getD (line c) 1291 0) 10
+
+abbrev formed : tie.After-read-field2 → Bool
+formed c =
+    let file = c .before .before .before .before in
+    (newline file && file .read-field .result) && c .read-field2 .result
+
+form : (c : tie.After-read-field2) → isListingLine (line (c .before .before .before .before)) ≡ formed c
+unfolding isListingLine
 form c =
-    formed-listing _ (sym (c .before .is-listing-line .ensures) ∙ not-false (c .before .is-listing-line .result) (c .if1 .left))
-
-part-read-field-end : tie.Need-part-read-field-end
-part-read-field-end c = omega (arith, form c)
-
-read-field-requires : tie.Need-read-field-requires
-read-field-requires c κs = form (c .before .before) .file
-
-part-read-field-end-2 : tie.Need-part-read-field-end-2
-part-read-field-end-2 c = omega (arith, form (c .before .before .before .before))
-
-read-field-requires-2 : tie.Need-read-field-requires-2
-read-field-requires-2 c κs = form (c .before .before .before .before .before .before) .text
+    let file = c .before .before .before .before in
+    rw (eq-eqb _ _ (file .before .before .before .before .if1 .left), ← file .read-field .ensures .0, ← c .read-field2 .ensures .0)
 
 returns-2 : tie.Need-returns-2
 unfolding listingLine
-returns-2 c =
-    let f2 = c .before .before .before .before in
-    let f1 = f2 .before .before .before .before in
-    let e = f1 .before .before .before in
-    let l = e .before .is-listing-line in
-    rw (← l .ensures, not-false (l .result) (e .if1 .left), ← f1 .read-field .ensures, ← f2 .read-field2 .ensures) (c .beside .ensures)
+returns-2 c = rw (form (c .before .before), not-true (formed (c .before .before)) (c .if2 .taken))
+
+returns-3 : tie.Need-returns-3
+unfolding listingLine
+returns-3 c =
+    let e = c .before .before .before in
+    let text = e .before .before in
+    let file = text .before .before .before .before in
+    let all = not-false (formed text) (e .if2 .left) in
+    let t = both (newline file && file .read-field .result) (text .read-field2 .result) all in
+    let f = both (newline file) (file .read-field .result) (t .0) in
+    rw (form text, all, ← file .read-field .ensures .1 (f .1), ← text .read-field2 .ensures .1 (t .1)) (c .beside-fields .ensures)
 
 pub listing-line-spec : {M : Type 1} → statement M
 listing-line-spec =
     tie.close
     (tie.spec
-    (λ c κs. search needs) returns
-    (λ c. search needs) (λ c. search needs) part-read-field-end (λ c. search needs) read-field-requires
-    (λ c. search needs) (λ c. search needs) part-read-field-end-2 (λ c. search needs) read-field-requires-2
-    (λ c. search needs) (λ c. search needs) (λ c κs. search needs) returns-2)
+    returns (λ c. search needs)
+    (λ c. search needs) (λ c. search needs) (λ c. search needs) (λ c. search needs) (λ c κs. search needs)
+    (λ c. search needs) (λ c. search needs) (λ c. search needs) (λ c. search needs) (λ c κs. search needs)
+    returns-2 (λ c. search needs) (λ c. search needs) (λ c κs. search needs) returns-3)
