@@ -1,13 +1,13 @@
 //! One script again, both sides' reports field by field.
 
 use crate::builder::cause::causes;
-use crate::builder::observed::Observed;
-use crate::builder::report::{Field, Report, STATE_BYTES};
+use crate::builder::report::{Field, Report, STATE_BYTES, StateBytes};
 use crate::builder::script::{ADD, Event, REPORT, RESET, RULE, events, rules_at_reports};
-use crate::builder::sides::{Run, StateBytes, Way};
-use crate::builder::{RULES, Settings, rule_of};
+use crate::builder::sides::{Run, other_ways};
+use crate::builder::{RULES, Settings, observed, rule_of};
 use crate::hexadecimal::bytes;
 use crate::table::Table;
+use crate::tally::Row;
 
 /// What is to be run again.
 pub struct Again {
@@ -39,9 +39,10 @@ impl Again {
     /// Prints the reports, and says whether they are the same.
     pub fn run(&self) -> bool {
         let run = Run { settings: self.settings, state: self.state.as_ref(), script: &self.script };
-        let mut observed = Observed::default();
-        let rust =
-            run.rust_seen(|builder, report| observed.compare(builder, report, self.settings));
+        let mut observed = Row::default();
+        let rust = run.rust_seen(|builder, report| {
+            observed::compare(builder, report, self.settings, &mut observed);
+        });
         let ours = match run.ours(rust.len()) {
             Ok(ours) => ours,
             Err(problem) => {
@@ -57,28 +58,19 @@ impl Again {
                 println!("cause: {}", cause.name());
             }
         }
-        observed.example.iter().for_each(|example| println!("{example}"));
-        let ways_are_same = self.ways_are_same(&run, &rust);
-        let same = ours == rust && observed.differing == 0 && ways_are_same;
+        observed.example().iter().for_each(|example| println!("{example}"));
+        let mut same = ours == rust && observed.counts.of("differ") == 0;
+        // the other ways lead from a new builder alone
+        let ways = other_ways().iter().filter(|_| self.state.is_none());
+        for way in ways.filter(|way| run.ours_by(way, rust.len()).as_ref() != Ok(&rust)) {
+            println!("history: DIFFERENT by {}", way.0);
+            same = false;
+        }
         println!(
             "history: {} reports, {}",
             rust.len(),
             if same { "the same" } else { "DIFFERENT" }
         );
-        same
-    }
-
-    /// Prints which of the other ways to the reports on a new builder leads elsewhere, and says
-    /// whether none does.
-    fn ways_are_same(&self, run: &Run, rust: &[Report]) -> bool {
-        let differs = |way: &Way| {
-            self.state.is_none() && run.ours_by(*way, rust.len()).ok().as_deref() != Some(rust)
-        };
-        let mut same = true;
-        for way in Way::OTHERS.into_iter().filter(differs) {
-            println!("history: DIFFERENT by {}", way.name());
-            same = false;
-        }
         same
     }
 }

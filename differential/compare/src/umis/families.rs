@@ -35,34 +35,24 @@ pub fn small_shape(random: &mut Random) -> Shape {
     Shape { strings: random.below(7) as usize, length: random.below(10) as usize }
 }
 
-/// A way to draw a set of about a shape.
-pub struct Kind {
-    pub name: &'static str,
-    pub draw: fn(Shape, &mut Random) -> Strings,
-}
-
-const fn kind(name: &'static str, draw: fn(Shape, &mut Random) -> Strings) -> Kind {
-    Kind { name, draw }
-}
-
-/// Two strands are made of the other kinds.
-pub static KINDS: [Kind; 10] = [
-    kind("errors of 0 to 50 percent", with_errors),
-    kind("errors, N and lower case", disguised),
-    kind("two halves", |shape, random| parts(2, shape, random)),
-    kind("three or four parts", |shape, random| parts(3 + random.below(2) as usize, shape, random)),
-    kind("columns that are not DNA", with_other_columns),
-    kind("faulty columns", faulty),
-    kind("a byte of 128 or more", with_high_bytes),
-    kind("unequal lengths", unequal),
-    kind("any bytes", any_bytes),
-    kind("two strands", two_strands),
+/// Ways to draw a set of about a shape, by name. Two strands are made of the other kinds.
+pub static KINDS: [(&str, fn(Shape, &mut Random) -> Strings); 10] = [
+    ("errors of 0 to 50 percent", with_errors),
+    ("errors, N and lower case", disguised),
+    ("two halves", |shape, random| parts(2, shape, random)),
+    ("three or four parts", |shape, random| parts(3 + random.below(2) as usize, shape, random)),
+    ("columns that are not DNA", with_other_columns),
+    ("faulty columns", faulty),
+    ("a byte of 128 or more", with_high_bytes),
+    ("unequal lengths", unequal),
+    ("any bytes", any_bytes),
+    ("two strands", two_strands),
 ];
 
 /// A set of any kind.
 pub fn any_kind(shape: Shape, random: &mut Random) -> Strings {
     let kind = random.below(KINDS.len() as u64) as usize;
-    (KINDS[kind].draw)(shape, random)
+    KINDS[kind].1(shape, random)
 }
 
 /// Bytes that are no DNA. A slip would take some of them for a base.
@@ -241,7 +231,7 @@ fn strand(strings: usize, suffix: &[u8], shape: Shape, random: &mut Random) -> S
     let single_strands = KINDS.len() as u64 - 1;
     // a strand of the first kinds is answered, and else the other one would seldom be looked at
     let kinds = random.one_of(&[5, single_strands]);
-    let draw = KINDS[random.below(kinds) as usize].draw;
+    let draw = KINDS[random.below(kinds) as usize].1;
     let mut strings = draw(Shape { strings, length }, random);
     for string in &mut strings {
         string.truncate(longest);
