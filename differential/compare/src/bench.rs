@@ -73,9 +73,8 @@ fn run(sides: &mut Sides, best: &mut [f64; 2], runs: usize) {
     }
 }
 
-/// Prints the table, in columns or as markdown, unless both sides' calls differ.
+/// Prints the tables, in columns or as markdown, unless both sides' calls differ.
 pub fn run_all(seed: u64, markdown: bool) -> bool {
-    let shown = |table: &Table| if markdown { table.markdown() } else { table.aligned() };
     let (lines, grown) = match (lines(seed), growth(seed)) {
         (Ok(lines), Ok(grown)) => (lines, grown),
         (Err(problem), _) | (_, Err(problem)) => {
@@ -83,6 +82,7 @@ pub fn run_all(seed: u64, markdown: bool) -> bool {
             return false;
         }
     };
+    let shown = |table: Table| if markdown { table.markdown() } else { table.aligned() };
     let runs = |(rounds, runs): (usize, usize)| rounds * runs;
     println!(
         "functions: best of {} runs over {ARGUMENTS} arguments, {}\n\
@@ -92,32 +92,41 @@ pub fn run_all(seed: u64, markdown: bool) -> bool {
          before\n\
          column files: best of {} runs, quality 20 to 40, nearly unanimous; tables built by both or kept \
          by both\n\
-         ratio: the Rust's time over ours, above 1 where ours is less\n",
+         ratio: the Rust's time over ours, above 1 where ours is less\n\n{}\n\
+         how the times grow; to text: less the time of a file with no columns\n\n{}",
         runs(OF_FUNCTIONS),
         environment::c_library(),
         runs(OF_COLUMNS),
         runs(OF_SETS),
         runs(OF_FILES),
+        shown(table(lines)),
+        shown(table_of_growth(grown)).trim_end(),
     );
+    true
+}
+
+fn table(lines: Vec<Line>) -> Table {
     let head = "function | arguments | measure | Rust, ns | ours, ns | ratio";
     let mut table = Table::new(head, 3..6);
     for (words, [rust, ours]) in lines {
         let times = [format!("{rust:.1}"), format!("{ours:.1}"), format!("{:.2}", rust / ours)];
         table.row([words, times].concat());
     }
-    print!("{}\n", shown(&table));
-    println!("how the times grow; to text: less the time of a file with no columns\n");
+    table
+}
+
+/// With the time of one of so many, too.
+fn table_of_growth(lines: Vec<Line>) -> Table {
     let head =
         "what | how many | Rust, ns | ours, ns | ratio | Rust, ns for one | ours, ns for one";
     let mut table = Table::new(head, 1..7);
-    for ([what, many, _], [rust, ours]) in grown {
+    for ([what, many, _], [rust, ours]) in lines {
         let count: f64 = many.parse().expect("it is a number");
         let times = [format!("{rust:.0}"), format!("{ours:.0}"), format!("{:.2}", rust / ours)];
         let each = [rust, ours].map(|time| format!("{:.1}", time / count));
         table.row([&[what, many][..], &times, &each].concat());
     }
-    print!("{}", shown(&table));
-    true
+    table
 }
 
 /// Each line of the first table, or what is wrong with an answer.

@@ -25,7 +25,7 @@ const HEAD: &str = "state | builders | reports | unanimous | multibase | N calle
 
 /// Compares so many builders, prints tables, and says whether each difference has a known cause.
 pub fn run(builders: u64, seed: u64) -> bool {
-    println!("builders: ours beside the Rust's, seed {seed}, {}", environment::c_library());
+    environment::print_start("builders", seed);
     let mut tally = Tally::default();
     // the short one first, so that it is the one which is printed
     for script in [short_script(), long_script()] {

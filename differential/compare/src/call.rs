@@ -60,8 +60,10 @@ impl Outcome {
         let place = self.bytes.iter().zip(&demanded.bytes).position(|(one, other)| one != other);
         place.map_or(replies.clone(), |place| {
             format!(
-                "{replies}; byte {} of the buffer, ours \"{}\", demanded \"{}\"",
+                "{replies}; byte {} of the buffer is {:02x}, demanded {:02x}; ours \"{}\", demanded \"{}\"",
                 place as i64 - GUARD as i64,
+                self.bytes[place],
+                demanded.bytes[place],
                 line(&self.bytes, place),
                 line(&demanded.bytes, place),
             )

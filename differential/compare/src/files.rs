@@ -22,8 +22,8 @@ use crate::tally::{Row, examples, print_table, verdict};
 use crate::umis::set::LONGEST;
 
 /// What is printed of a row: how many files were to be listed or refused.
-const HEAD: &str =
-    "files | how many | calls | listed | 1 | 2 | 3 | 4 | 7 | 8 | 9 | too short | differ";
+const HEAD: &str = "files | how many | calls: list | listed | 1 | 2 | 3 | 4 | 7 | 8 | 9 | \
+                    too short: list, too short | differ";
 
 /// What is printed of all.
 const TOLD: [&str; 3] = [
@@ -35,38 +35,11 @@ const TOLD: [&str; 3] = [
     "files: {pre rates} pre rates and {post rates} post rates in {pairs of rates} pairs; {FgbioCompat} \
      under FgbioCompat, {UlpRelative} under UlpRelative",
 ];
-const TOLD_OF_FUNCTIONS: [&str; 2] = [
-    "files: consensus_listing beside the same texts, {listing} calls: {listing, refused} refused by the \
-     number, {listing, too short} by 10; differences are counted above",
-    "files: consensus_records beside them, {records} calls: {records, too short} refused by 10; \
-     differences are counted above",
-];
 
 /// What must have been demanded: without it the files do not show what they are to show.
-const DEMANDED: [&str; 22] = [
-    "1",
-    "2",
-    "3",
-    "4",
-    "7",
-    "8",
-    "9",
-    "too short",
-    "listing, too short",
-    "records, too short",
-    "listing, written",
-    "a column called N",
-    "a column called otherwise",
-    "empty columns",
-    "columns by the rule",
-    "the flag",
-    "no flag",
-    "an empty string",
-    "a byte of 128 or more",
-    "FgbioCompat",
-    "UlpRelative",
-    "each rate on either side",
-];
+const DEMANDED: &str = "1 | 2 | 3 | 4 | 7 | 8 | 9 | a column called N | a column called otherwise | \
+                        empty columns | columns by the rule | the flag | no flag | an empty string | \
+                        a byte of 128 or more | FgbioCompat | UlpRelative | each rate on either side";
 
 /// What the rates decide: an observation alone, an agreement of two and a dispute, and one at which a
 /// post rate of 0 makes a lane infinite.
@@ -89,7 +62,7 @@ const FILES_FOR_A_SUM: u64 = 20;
 /// Compares so many drawn files besides the fixed ones, prints tables, and says whether nothing
 /// differs and every reply occurred.
 pub fn run(files: u64, seed: u64) -> bool {
-    println!("files: ours beside the Rust's, seed {seed}, {}", environment::c_library());
+    environment::print_start("files", seed);
     panics::silence();
     let mut rows = fixed::rows();
     rows.extend(by_seed(files, seed));
@@ -168,12 +141,22 @@ fn print(rows: &[Row]) -> bool {
     examples("files", rows).iter().for_each(|example| println!("{example}"));
     print_known(&all);
     TOLD.iter().for_each(|text| counts.tell(text));
-    let demanded = counts.all_demanded("files: never demanded", &DEMANDED);
+    let mut demanded = counts.all_demanded("files: never demanded", DEMANDED);
     counts.tell(
-        "files: {how many} files, {calls} calls compared: {listed} listed, refused {1} by 1, {2} by 2, {3} \
+        "files: {how many} files, {list} calls compared: {listed} listed, refused {1} by 1, {2} by 2, {3} \
          by 3, {4} by 4, {7} by 7, {8} by 8, {9} by 9; {differ} differ",
     );
-    TOLD_OF_FUNCTIONS.iter().for_each(|text| counts.tell(text));
+    for Function { name, by_number, counts: [calls, refused, too_short, written], .. } in &FUNCTIONS
+    {
+        let names = [*refused, *too_short, *written].join(" | ");
+        demanded &= counts.all_demanded("files: never demanded", &names);
+        if *by_number {
+            counts.tell(&format!(
+                "files: {name} beside the same texts, {{{calls}}} calls: {{{refused}}} refused by the \
+                 number, {{{too_short}}} by 10; differences are counted above"
+            ));
+        }
+    }
     counts.of("differ") == 0 && demanded
 }
 
@@ -305,7 +288,7 @@ impl Row {
                 u64::from(times) * sum
             }
         };
-        self.counts.one("calls");
+        self.counts.one("list");
         let ours = exports::calls(file, times);
         if ours != demanded {
             let problem =

@@ -4,14 +4,14 @@ pub mod columns;
 
 use self::columns::{Column, KINDS, drawn_kind};
 use crate::builder::cause::{Cause, causes};
-use crate::builder::report::{Field, Report, difference};
+use crate::builder::report::{Field, Report};
 use crate::builder::script::Script;
-use crate::builder::sides::{Run, Way, other_ways};
+use crate::builder::sides::{Run, WAYS, Way};
 use crate::builder::ties::unique_maximum;
 use crate::builder::{RULES, Settings, draws, observed, refused, rule_of};
 use crate::environment;
 use crate::random::Random;
-use crate::tally::{Row, print_table, verdict};
+use crate::tally::{Counts, Row, print_table, verdict};
 
 /// How many columns a script has at least. Each call of our side builds its tables anew, so that
 /// there are many.
@@ -27,7 +27,7 @@ const HEAD: &str = "columns | how many | deepest | reports | unanimous | multiba
 
 /// Compares so many histories, prints tables, and says whether nothing differs.
 pub fn run(histories: u64, seed: u64) -> bool {
-    println!("histories: ours beside the Rust's, seed {seed}, {}", environment::c_library());
+    environment::print_start("histories", seed);
     let tally = Tally::of(histories, seed);
     tally.print();
     let all_refused = refused::of_histories();
@@ -110,11 +110,11 @@ pub struct Tally {
     kinds: Vec<Row>,
     /// Those that differ, by the fields in which they do, with the shortest script of some.
     fields: Vec<Row>,
-    /// By the other ways to a report.
+    /// By the ways to them, with a script for which there are no reports to compare.
     ways: Vec<Row>,
     /// What the builders of the reports have counted.
     observed: Row,
-    /// The scripts, their rates, and those for which there are no reports to compare.
+    /// The scripts, and their rates.
     scripts: Row,
 }
 
@@ -124,7 +124,7 @@ impl Tally {
         let mut tally = Self {
             kinds: KINDS.iter().map(|kind| Row::new(kind.name)).collect(),
             fields: Field::ALL.iter().map(|field| Row::new(field.name())).collect(),
-            ways: other_ways().iter().map(|(name, _)| Row::new(*name)).collect(),
+            ways: WAYS.iter().map(|(name, _)| Row::new(*name)).collect(),
             observed: Row::default(),
             scripts: Row::default(),
         };
@@ -152,57 +152,40 @@ impl Tally {
         let observed = &mut self.observed;
         let rust =
             run.rust_seen(|builder, report| observed::compare(builder, report, settings, observed));
-        for (way, row) in other_ways().iter().zip(&mut self.ways) {
-            compare_way(way, &run, &drawn.places, &rust, row);
+        for (place, rust) in drawn.places.iter().zip(&rust) {
+            count(rust, &mut self.kinds[place.kind].counts);
         }
-        match run.ours(drawn.script.reports) {
-            Err(problem) => self.count_failed(&run, &drawn.places, problem),
-            Ok(ours) => {
-                for ((place, ours), rust) in drawn.places.iter().zip(&ours).zip(&rust) {
-                    self.count(&run, place, ours, rust);
-                }
-            }
+        for way in 0..WAYS.len() {
+            self.compare_way(way, &run, &drawn.places, &rust);
         }
     }
 
-    fn count(&mut self, run: &Run, place: &Place, ours: &Report, rust: &Report) {
-        let kind = &mut self.kinds[place.kind].counts;
-        let shortcuts = [Field::Unanimous, Field::Multibase];
-        let [unanimous, multibase] = shortcuts.map(|shortcut| rust.replies(shortcut));
-        let lanes = rust.likelihoods();
-        kind.one("reports");
-        kind.add("unanimous", unanimous);
-        kind.add("multibase", multibase);
-        kind.add("neither", !unanimous && !multibase);
-        kind.add("N called", rust.no_call());
-        let [one, other] = RULES.map(|rule| unique_maximum(lanes, rule));
-        kind.add("rules differ", one != other);
-        kind.add("not finite", !lanes.iter().all(|lane| lane.is_finite()));
-        if ours == rust {
-            return;
-        }
-        kind.one("differ");
-        for field in ours.differing(rust) {
-            let row = &mut self.fields[field as usize];
-            row.counts.one("reports that differ");
-            let column = place.end - place.start;
-            if row.counts.of("tried") < TRIED && row.is_beaten_by(column) {
-                row.counts.one("tried");
-                let again = shortest(run, place, field);
-                row.keep(again.script.len(), || words_of(&again, place, field, ours, rust));
+    /// By a way, with these reports by the Rust.
+    fn compare_way(&mut self, way: usize, run: &Run, places: &[Place], rust: &[Report]) {
+        let (row, (name, _)) = (&mut self.ways[way], WAYS[way]);
+        let ours = match run.ours_by(&WAYS[way], rust.len()) {
+            Ok(ours) => ours,
+            Err(problem) => {
+                row.counts.one("failed");
+                return row.keep(0, || {
+                    let failing = |place: &Place| {
+                        let again = from_reset(run, place);
+                        let problem = again.ours_by(&WAYS[way], again.rust().len()).err()?;
+                        Some(format!("{name}: {problem}: {again}"))
+                    };
+                    let whole = || format!("{name}: {problem}: {run}");
+                    places.iter().find_map(failing).unwrap_or_else(whole)
+                });
             }
-        }
-    }
-
-    /// Counts a script for which there are no reports of ours to compare.
-    fn count_failed(&mut self, run: &Run, places: &[Place], problem: String) {
-        self.scripts.counts.one("failed");
-        let column = |place: &Place| {
-            let again = from_reset(run, place);
-            again.ours(again.rust().len()).err().map(|problem| format!("{problem}: {again}"))
         };
-        let shortest = || places.iter().find_map(column);
-        self.scripts.keep(0, || shortest().unwrap_or_else(|| format!("{problem}: {run}")));
+        row.counts.add("reports", rust.len() as u64);
+        for ((place, ours), rust) in places.iter().zip(&ours).zip(rust) {
+            if ours != rust {
+                row.counts.one("differ");
+                self.kinds[place.kind].counts.add("differ", way == 0);
+                count_difference(&WAYS[way], run, place, ours, rust, &mut self.fields);
+            }
+        }
     }
 
     /// Of all kinds together.
@@ -213,8 +196,7 @@ impl Tally {
     /// Reports that differ, whatever the cause and the way, scripts without their reports, and
     /// builders whose counts differ.
     pub fn unexplained(&self) -> u64 {
-        let others = self.ways.iter().chain([&self.scripts, &self.observed]);
-        let all = Row::sum(self.kinds.iter().chain(others)).counts;
+        let all = Row::sum(self.ways.iter().chain([&self.observed])).counts;
         all.of("differ") + all.of("failed")
     }
 
@@ -225,8 +207,8 @@ impl Tally {
 
     /// What differs, and how to see it again.
     pub fn examples(&self) -> Vec<String> {
-        let rows = self.fields.iter().chain([&self.scripts]).chain(&self.ways);
-        let examples = rows.chain([&self.observed]).filter_map(Row::example);
+        let rows = self.fields.iter().chain(&self.ways).chain([&self.observed]);
+        let examples = rows.filter_map(Row::example);
         examples.map(|example| format!("histories: {example}")).collect()
     }
 
@@ -240,9 +222,6 @@ impl Tally {
             "histories: {how many} columns between resets and {scripts} whole scripts of them, {reports} \
              reports; a report asks both shortcuts",
         );
-        all.tell(
-            "histories: {differ} reports differ, {failed} scripts without the bytes of their reports",
-        );
         for way in &self.ways {
             print!("histories: {}: ", way.name);
             way.counts.tell(
@@ -254,35 +233,55 @@ impl Tally {
     }
 }
 
-/// Compares a script by another way; these are its reports by the Rust.
-fn compare_way(way: &Way, run: &Run, places: &[Place], rust: &[Report], row: &mut Row) {
-    let ours = match run.ours_by(way, rust.len()) {
-        Ok(ours) => ours,
-        Err(problem) => {
-            row.counts.one("failed");
-            return row.keep(0, || format!("{}: {problem}: {run}", way.0));
-        }
-    };
-    for ((ours, rust), place) in ours.iter().zip(rust).zip(places) {
-        row.counts.one("reports");
-        if ours != rust {
-            // the column alone, where that shows a difference as well, and else the whole script
-            row.differs(0, || {
-                let column = from_reset(run, place);
-                let of_column = column.rust();
-                let same = column.ours_by(way, of_column.len()) == Ok(of_column);
-                let again = if same { *run } else { column };
-                format!("{}: {}: {again}", way.0, difference(ours, rust))
+/// Counts what a report of the Rust's shows.
+fn count(rust: &Report, counts: &mut Counts) {
+    let shortcuts = [Field::Unanimous, Field::Multibase];
+    let [unanimous, multibase] = shortcuts.map(|shortcut| rust.replies(shortcut));
+    let lanes = rust.likelihoods();
+    let [one, other] = RULES.map(|rule| unique_maximum(lanes, rule));
+    counts.one("reports");
+    counts.add("unanimous", unanimous);
+    counts.add("multibase", multibase);
+    counts.add("neither", !unanimous && !multibase);
+    counts.add("N called", rust.no_call());
+    counts.add("rules differ", one != other);
+    counts.add("not finite", !lanes.iter().all(|lane| lane.is_finite()));
+}
+
+fn count_difference(
+    way: &Way,
+    run: &Run,
+    place: &Place,
+    ours: &Report,
+    rust: &Report,
+    fields: &mut [Row],
+) {
+    for field in ours.differing(rust) {
+        let row = &mut fields[field as usize];
+        row.counts.one("reports that differ");
+        if row.counts.of("tried") < TRIED && row.is_beaten_by(place.end - place.start) {
+            row.counts.one("tried");
+            let again = shortest(way, run, place, field);
+            row.keep(again.script.len(), || {
+                let causes = causes(ours, rust, run.settings.pre, rule_of(place.rule));
+                format!(
+                    "{}: {}, ours {}, the Rust's {}, the cause {}: {again}",
+                    way.0,
+                    field.name(),
+                    ours.words(field),
+                    rust.words(field),
+                    causes.into_iter().map(Cause::name).collect::<Vec<String>>().join(" and "),
+                )
             });
         }
     }
 }
 
 /// The column alone, where that shows a difference as well, and else all that is before it too.
-fn shortest<'a>(run: &Run<'a>, place: &Place, field: Field) -> Run<'a> {
+fn shortest<'a>(way: &Way, run: &Run<'a>, place: &Place, field: Field) -> Run<'a> {
     let column = from_reset(run, place);
     let rust = column.rust();
-    let ours = column.ours(rust.len()).unwrap_or_default();
+    let ours = column.ours_by(way, rust.len()).unwrap_or_default();
     let mut last = ours.last().into_iter().zip(rust.last());
     let differs = last.any(|(ours, rust)| ours.field(field) != rust.field(field));
     if differs { column } else { Run { script: &run.script[..place.end], ..*run } }
@@ -292,15 +291,4 @@ fn shortest<'a>(run: &Run<'a>, place: &Place, field: Field) -> Run<'a> {
 fn from_reset<'a>(run: &Run<'a>, place: &Place) -> Run<'a> {
     let settings = Settings { rule: place.rule_at_start, ..run.settings };
     Run { settings, state: None, script: &run.script[place.start..place.end] }
-}
-
-fn words_of(run: &Run, place: &Place, field: Field, ours: &Report, rust: &Report) -> String {
-    let causes = causes(ours, rust, run.settings.pre, rule_of(place.rule));
-    format!(
-        "{}, ours {}, the Rust's {}, the cause {}: {run}",
-        field.name(),
-        ours.words(field),
-        rust.words(field),
-        causes.into_iter().map(Cause::name).collect::<Vec<String>>().join(" and "),
-    )
 }

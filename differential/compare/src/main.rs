@@ -3,8 +3,6 @@
 use std::process::ExitCode;
 use std::{env, io};
 
-use crate::history::Again;
-
 mod bench;
 mod builder;
 mod builders;
@@ -95,7 +93,7 @@ impl Request {
             ["umis"] => Ok(umis::run(sets, seed)),
             ["files"] => Ok(files::run(files, seed)),
             ["soak"] => soak::run(minutes, seed),
-            ["history", ref words @ ..] => Ok(Again::read(words)?.run()),
+            ["history", ref words @ ..] => Ok(history::run(words)?),
             ["vectors", file] => vectors::write(file.as_ref(), seed),
             ["bench"] => Ok(bench::run_all(seed, self.markdown)),
             _ => return Err("no such command".to_owned()),

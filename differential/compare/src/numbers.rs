@@ -9,7 +9,7 @@ pub mod recorded;
 
 use std::io;
 
-use self::arguments::{Arguments, Chosen, chosen, chosen_of_elementary};
+use self::arguments::{Arguments, chosen};
 use self::function::{Answers, ELEMENTARY, Function, PHRED};
 use self::ranges::{Demand, ranges};
 use crate::environment;
@@ -37,12 +37,11 @@ pub fn stored_bits(x: f64) -> u64 {
 /// Compares the elementary functions at so many arguments a range, prints a table, and says whether
 /// all is as demanded.
 pub fn run_elementary(arguments: u64, seed: u64) -> io::Result<bool> {
-    println!("elementary: ours beside the Rust's, seed {seed}, {}", environment::c_library());
+    environment::print_start("elementary", seed);
     let mut random = Random::new(seed);
     let mut lines = Vec::new();
     for (function, recorded) in ELEMENTARY.iter().zip(recorded_calls()?) {
-        lines.extend(drawn(function, arguments, &mut random));
-        lines.extend(at_chosen(function, chosen_of_elementary()));
+        lines.extend(lines_of(function, arguments, &mut random));
         let (arguments, demand) = ("calls of all tables", Demand::Ulps(0));
         lines.push(Line { function, arguments, demand, tally: recorded });
     }
@@ -54,14 +53,11 @@ pub fn run_elementary(arguments: u64, seed: u64) -> io::Result<bool> {
 
 /// The same of those of phred.rs.
 pub fn run_phred(arguments: u64, seed: u64) -> bool {
-    println!("phred: ours beside the Rust's, seed {seed}, {}", environment::c_library());
+    environment::print_start("phred", seed);
     panics::silence();
     let mut random = Random::new(seed);
-    let mut lines = Vec::new();
-    for function in &PHRED {
-        lines.extend(drawn(function, arguments, &mut random));
-        lines.extend(at_chosen(function, chosen(function)));
-    }
+    let lines = PHRED.iter().flat_map(|function| lines_of(function, arguments, &mut random));
+    let lines: Vec<Line> = lines.collect();
     let head = "function | arguments | demanded | how many | panics | differ | by elementary | \
                 otherwise | ulps |  | ours | the Rust's | for example at";
     print_table(head, 3..12, &lines);
@@ -86,22 +82,17 @@ fn recorded_calls() -> io::Result<[Tally; ELEMENTARY.len()]> {
     Ok(tallies)
 }
 
-/// A line of each range of a function, of so many arguments each.
-fn drawn(function: &'static Function, arguments: u64, random: &mut Random) -> Vec<Line> {
-    let lines = ranges(function).into_iter().map(|range| {
+/// A line of each range of a function, of so many arguments each, and of each list of chosen ones.
+fn lines_of(function: &'static Function, arguments: u64, random: &mut Random) -> Vec<Line> {
+    let drawn = ranges(function).into_iter().map(|range| {
         let tally = Tally::of(function, (0..arguments).map(|_| (range.draw)(random)));
         Line { function, arguments: range.name, demand: range.demand, tally }
     });
-    lines.collect()
-}
-
-/// A line of each list of chosen arguments of a function.
-fn at_chosen(function: &'static Function, chosen: Vec<Chosen>) -> Vec<Line> {
-    let line = |Chosen { name, allowed, arguments }| {
+    let chosen = chosen(function).into_iter().map(|(name, allowed, arguments)| {
         let tally = Tally::of(function, arguments);
         Line { function, arguments: name, demand: Demand::Ulps(allowed), tally }
-    };
-    chosen.into_iter().map(line).collect()
+    });
+    drawn.chain(chosen).collect()
 }
 
 /// What came out of comparing many answers.

@@ -124,26 +124,25 @@ impl Totals {
         files::print_known(&self.files);
         let mut table = Table::new("in all rounds | how many", 1..2);
         let mut line = |name: &str, count: u64| table.row(vec![name.to_owned(), count.to_string()]);
+        let of = |row: &Row, count| row.counts.of(count);
         let Self { histories, builders, umis, sequences, files, .. } = self;
         line("rounds", self.rounds);
-        line("columns", histories.counts.of("how many"));
-        line("reports on columns", histories.counts.of("reports"));
-        line("builders", builders.counts.of("builders"));
-        line("reports on builders", builders.counts.of("reports"));
-        let known = "reports on builders that differ for a known cause";
-        line(known, builders.counts.of("known"));
+        line("columns", of(histories, "how many"));
+        line("reports on columns", of(histories, "reports"));
+        line("builders", of(builders, "builders"));
+        line("reports on builders", of(builders, "reports"));
+        line("reports on builders that differ for a known cause", of(builders, "known"));
         builders.known().for_each(|(name, count, _)| line(&format!("- {name}"), count));
-        line("UMI sets", umis.counts.of("how many"));
-        line("calls of UMI functions, accepted", umis.counts.of("accepted"));
+        line("UMI sets", of(umis, "how many"));
+        line("calls of UMI functions, accepted", of(umis, "accepted"));
         for number in ["1", "2", "5", "6", "7", "8", "9", "10"] {
-            let name = format!("calls of UMI functions, refused by {number}");
-            line(&name, umis.counts.of(number));
+            line(&format!("calls of UMI functions, refused by {number}"), of(umis, number));
         }
-        line("sequences of UMI sets on one caller", sequences.counts.of("sequences"));
-        line("UMI sets in them", sequences.counts.of("sets"));
-        line("column files, listed", files.counts.of("listed"));
+        line("sequences of UMI sets on one caller", of(sequences, "sequences"));
+        line("UMI sets in them", of(sequences, "sets"));
+        line("column files, listed", of(files, "listed"));
         for number in ["1", "2", "3", "4", "7", "8", "9"] {
-            line(&format!("column files, refused by {number}"), files.counts.of(number));
+            line(&format!("column files, refused by {number}"), of(files, number));
         }
         line("texts that differ for a known cause", files.known_sum());
         files.known().for_each(|(name, count, _)| line(&format!("- {name}"), count));

@@ -76,8 +76,8 @@ impl Counts {
 
     /// Prints which of these never was demanded, and says whether there is no such thing: without it
     /// nothing would show what is to be shown.
-    pub fn all_demanded(&self, start: &str, names: &[&str]) -> bool {
-        let missing: Vec<&&str> = names.iter().filter(|name| self.of(name) == 0).collect();
+    pub fn all_demanded(&self, start: &str, names: &str) -> bool {
+        let missing: Vec<&str> = names.split(" | ").filter(|name| self.of(name) == 0).collect();
         for name in &missing {
             let number = if name.parse::<u64>().is_ok() { "the number " } else { "" };
             println!("{start}: {number}{name}");
@@ -176,12 +176,14 @@ pub fn examples(command: &str, rows: &[Row]) -> Vec<String> {
     rows.iter().filter_map(words).collect()
 }
 
-/// Prints a line of each row with its counts, those that are the heads of the columns.
-pub fn print_table<'a>(head: &str, rows: impl IntoIterator<Item = &'a Row>) {
-    let names: Vec<&str> = head.split(" | ").skip(1).collect();
-    let mut table = Table::new(head, 1..1 + names.len());
+/// Prints a line of each row with its counts, those that are the heads of the columns or, where that
+/// is another name, stand after the head and a colon.
+pub fn print_table<'a>(heads: &str, rows: impl IntoIterator<Item = &'a Row>) {
+    let columns = heads.split(" | ").map(|head| head.split_once(": ").unwrap_or((head, head)));
+    let (heads, names): (Vec<&str>, Vec<&str>) = columns.unzip();
+    let mut table = Table::new(&heads.join(" | "), 1..names.len());
     for row in rows {
-        let cells = names.iter().map(|name| row.counts.of(name).to_string());
+        let cells = names[1..].iter().map(|name| row.counts.of(name).to_string());
         table.row([row.name.clone()].into_iter().chain(cells).collect());
     }
     print!("{}", table.aligned());

@@ -8,7 +8,7 @@ pub mod sequences;
 pub mod set;
 
 use self::families::{FULL, KINDS, any_kind, family, shape, small_shape};
-use self::rust::{Found, found};
+use self::rust::{Found, Given, found};
 use self::set::{DEFAULTS, Function, LONGEST, Rates, TOO_SHORT, name, written};
 use crate::builder::draws::{self, Qualities};
 use crate::builder::report::STATE_BYTES;
@@ -25,22 +25,8 @@ const HEAD: &str =
     "sets | how many | calls | accepted | 1 | 2 | 5 | 6 | 7 | 8 | 9 | 10 | absent | differ";
 
 /// What must have been demanded.
-const DEMANDED: [&str; 14] = [
-    "1",
-    "2",
-    "5",
-    "6",
-    "7",
-    "8",
-    "9",
-    "10",
-    "accepted",
-    "the first flag",
-    "the second flag",
-    "an N",
-    "a builder that has counted",
-    "absent",
-];
+const DEMANDED: &str = "1 | 2 | 5 | 6 | 7 | 8 | 9 | 10 | accepted | the first flag | the second flag \
+     | an N | a builder that has counted | absent";
 
 /// Room for the longest answer, and for some bytes more.
 const ROOM: usize = 255 + STATE_BYTES + 9;
@@ -57,7 +43,7 @@ const SETS_FOR_ROOMS: u64 = 20;
 /// Compares so many drawn sets besides the fixed ones, prints tables, and says whether nothing
 /// differs and every reply occurred.
 pub fn run(sets: u64, seed: u64) -> bool {
-    println!("umis: ours beside the Rust's, seed {seed}, {}", environment::c_library());
+    environment::print_start("umis", seed);
     panics::silence();
     let mut random = Random::new(seed);
     let mut rows = fixed::rows();
@@ -90,7 +76,7 @@ fn print(rows: &[Row]) -> bool {
         "umis: of {accepted} accepted, {the first flag} with the first flag, {the second flag} with \
          the second, {an N} with an N, {a builder that has counted} with a builder that has counted",
     );
-    let demanded = counts.all_demanded("umis: never demanded", &DEMANDED);
+    let demanded = counts.all_demanded("umis: never demanded", DEMANDED);
     counts.tell("umis: {how many} sets, {calls} calls compared; {differ} differ");
     counts.of("differ") == 0 && demanded
 }
@@ -102,10 +88,9 @@ fn drawn(sets: u64, random: &mut Random) -> Vec<Row> {
         let (kind, shape) = (turn % KINDS.len(), shape(random));
         rows[kind].compare_set(&written(&KINDS[kind].1(shape, random)));
     }
-    let mut full = Row::new("255 strings of 255 bytes");
-    for (_, draw) in &KINDS {
-        (0..FULL_OF_A_KIND).for_each(|_| full.compare_set(&written(&draw(FULL, random))));
-    }
+    let full = KINDS.iter().flat_map(|(_, draw)| [draw; FULL_OF_A_KIND]);
+    let full = full.map(|draw| written(&draw(FULL, random)));
+    let full = Row::of_sets("255 strings of 255 bytes", full);
     let mut other = Row::new("other rates and qualities");
     for turn in 0..sets {
         let rates = drawn_rates(turn, random);
@@ -232,6 +217,12 @@ impl Asked {
 }
 
 impl Row {
+    fn of_sets(name: &str, sets: impl IntoIterator<Item = Vec<u8>>) -> Self {
+        let mut row = Self::new(name);
+        sets.into_iter().for_each(|set| row.compare_set(&set));
+        row
+    }
+
     /// All functions at the defaults, those of a caller also with its builder.
     fn compare_set(&mut self, set: &[u8]) {
         self.compare_functions(&Function::ALL, DEFAULTS, set, |_| vec![ROOM]);
@@ -260,9 +251,7 @@ impl Row {
                 continue;
             };
             for asked in Asked::ways(*function, rates) {
-                for room in rooms(asked.answer(&found).bytes.len()) {
-                    self.compare_asked(asked, set, room, &found);
-                }
+                self.compare_asked(asked, set, &found, rooms);
             }
         }
     }
@@ -276,24 +265,32 @@ impl Row {
             .ok()
     }
 
-    /// One call.
-    fn compare_asked(&mut self, asked: Asked, set: &[u8], room: usize, found: &Found) {
+    /// Calls in the rooms that there are for what is needed.
+    fn compare_asked(
+        &mut self,
+        asked: Asked,
+        set: &[u8],
+        found: &Found,
+        rooms: impl Fn(usize) -> Vec<usize>,
+    ) {
         let answer = asked.answer(found);
-        self.counts.one("calls");
-        match (answer.reply_in(room), found) {
-            (0, _) => self.counts.one("absent"),
-            (number @ 1..256, _) => self.counts.number(number),
-            (_, Ok(given)) => {
-                self.counts.one("accepted");
-                self.counts.add("the first flag", given.flags[0]);
-                self.counts.add("the second flag", given.flags[1]);
-                self.counts.add("an N", given.string.contains(&b'N'));
-                let counted = asked.rates.is_some() && given.has_counted();
-                self.counts.add("a builder that has counted", counted);
-            }
-            _ => unreachable!("a number is below 256"),
-        }
         let ours = |set: &[u8], out: &mut [u8]| asked.ours(set, out);
-        self.compare(&Call { name: &|| asked.name(), ours: &ours, input: set, room }, &answer);
+        for room in rooms(answer.bytes.len()) {
+            self.counts.one("calls");
+            match (answer.reply_in(room), found) {
+                (0, _) => self.counts.one("absent"),
+                (256.., Ok(given)) => self.count_accepted(given, asked.rates.is_some()),
+                (number, _) => self.counts.number(number),
+            }
+            self.compare(&Call { name: &|| asked.name(), ours: &ours, input: set, room }, &answer);
+        }
+    }
+
+    fn count_accepted(&mut self, given: &Given, with_builder: bool) {
+        self.counts.one("accepted");
+        self.counts.add("the first flag", given.flags[0]);
+        self.counts.add("the second flag", given.flags[1]);
+        self.counts.add("an N", given.string.contains(&b'N'));
+        self.counts.add("a builder that has counted", with_builder && given.has_counted());
     }
 }

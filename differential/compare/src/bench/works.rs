@@ -27,7 +27,7 @@ use crate::random::Random;
 use crate::tables;
 use crate::umis::families::{FULL, Shape, family};
 use crate::umis::rust::texts;
-use crate::umis::set::{Function, LONGEST, written};
+use crate::umis::set::{Function, LONGEST, read as read_set, written};
 
 /// How many events a run of columns goes through, about.
 pub const EVENTS: usize = 1_000_000;
@@ -205,56 +205,52 @@ pub fn columns(seed: u64) -> Result<Vec<Timed>, String> {
     Ok(all)
 }
 
-/// The largest set, and usual ones. The strings of the Rust are made before, and so is its wrapper.
+/// The largest set, and usual ones.
 pub fn umi_sets(seed: u64) -> Result<Vec<Timed>, String> {
     let random = &mut Random::new(seed);
-    let set = ["UMI set", "255 strings of 255 bytes", "a set"];
-    let consensus =
-        |caller: &mut SimpleUmiConsensusCaller, strings: &[String]| caller.consensus(strings).0;
-    let umis = ["consensus_umis", "5 strings of 8 bytes", "a set"];
-    let usual = Shape { strings: 5, length: 8 };
+    let (large, usual) = ("255 strings of 255 bytes", "5 strings of 8 bytes");
+    let shape = Shape { strings: 5, length: 8 };
     Ok(vec![
-        of_sets(set, [FULL].repeat(1), 4, Function::Consensus, consensus, random)?,
+        of_sets(["UMI set", large, "a set"], Function::Consensus, FULL, [1, 4], random)?,
         of_sets(
-            umis,
-            [usual].repeat(100),
-            4_000,
+            ["consensus_umis", usual, "a set"],
             Function::ConsensusUmis,
-            |_, strings| consensus_umis(strings),
+            shape,
+            [100, 4_000],
             random,
         )?,
     ])
 }
 
-/// So many calls on families of these shapes, in which one byte in 100 is another base.
+/// So many families of a shape, in which one byte in 100 is another base, and so many calls on them.
+/// The strings of the Rust are made before, and so is its wrapper.
 fn of_sets(
     words: [&str; 3],
-    shapes: Vec<Shape>,
-    calls: usize,
     function: Function,
-    rust: fn(&mut SimpleUmiConsensusCaller, &[String]) -> String,
+    shape: Shape,
+    [many, calls]: [usize; 2],
     random: &mut Random,
 ) -> Result<Timed, String> {
-    let families = shapes.into_iter().map(|shape| family(shape, 1, random));
-    let families: Vec<Vec<Vec<u8>>> = families.collect();
+    let families: Vec<Vec<Vec<u8>>> = (0..many).map(|_| family(shape, 1, random)).collect();
     let sets: Vec<Vec<u8>> = families.iter().map(|strings| written(strings)).collect();
-    let strings = |family: &Vec<Vec<u8>>| {
-        texts(&family.iter().map(|string| &string[..]).collect::<Vec<&[u8]>>()).expect("bases")
-    };
-    let strings: Vec<Vec<String>> = families.iter().map(strings).collect();
+    let strings: Option<Vec<Vec<String>>> = sets.iter().map(|set| texts(&read_set(set)?)).collect();
+    let strings = strings.expect("sets of bases");
     let mut caller = SimpleUmiConsensusCaller::new();
+    let mut rust = move |strings: &[String]| match function {
+        Function::Consensus => caller.consensus(strings).0,
+        _ => consensus_umis(strings),
+    };
     let mut out = [0; 255];
     for (set, strings) in sets.iter().zip(&strings) {
-        let rust = rust(&mut caller, strings);
         let reply = exports::umi(function as u8, set, &mut out);
         let length = reply.checked_sub(256).map(|reply| reply as usize / 4);
-        if length.and_then(|length| out.get(..length)) != Some(rust.as_bytes()) {
+        if length.and_then(|length| out.get(..length)) != Some(rust(strings).as_bytes()) {
             return Err(format!("{}, {}: the answers differ", words[0], words[1]));
         }
     }
     let run_rust = move || {
         for strings in strings.iter().cycle().take(calls) {
-            black_box(rust(&mut caller, black_box(strings)));
+            black_box(rust(black_box(strings)));
         }
     };
     let run_ours = move || {

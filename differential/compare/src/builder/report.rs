@@ -20,46 +20,33 @@ pub type StateBytes = [u8; STATE_BYTES];
 /// A base and its quality.
 pub type Call = (u8, u8);
 
-/// What a report says, in its order.
-#[derive(Clone, Copy, PartialEq, Eq)]
-pub enum Field {
-    Likelihoods,
-    Compensations,
-    Counts,
-    Unanimous,
-    Multibase,
-    CallFull,
-    Call,
-    Refused,
+/// What a report says, in its order: the names, and where each starts.
+macro_rules! fields {
+    ($($field:ident $name:literal $start:literal)*) => {
+        #[derive(Clone, Copy, PartialEq, Eq)]
+        pub enum Field { $($field),* }
+
+        impl Field {
+            pub const ALL: [Self; 8] = [$(Self::$field),*];
+
+            pub fn name(self) -> &'static str {
+                [$($name),*][self as usize]
+            }
+        }
+
+        const STARTS: [usize; 9] = [$($start,)* BYTES];
+    };
 }
 
-/// Where each starts, and the last one ends.
-const STARTS: [usize; 9] = [0, 32, 64, 80, 83, 86, 88, 90, BYTES];
-
-impl Field {
-    pub const ALL: [Self; 8] = [
-        Self::Likelihoods,
-        Self::Compensations,
-        Self::Counts,
-        Self::Unanimous,
-        Self::Multibase,
-        Self::CallFull,
-        Self::Call,
-        Self::Refused,
-    ];
-
-    pub fn name(self) -> &'static str {
-        match self {
-            Self::Likelihoods => "likelihoods",
-            Self::Compensations => "compensations",
-            Self::Counts => "counts",
-            Self::Unanimous => "unanimous shortcut",
-            Self::Multibase => "multibase shortcut",
-            Self::CallFull => "call_full",
-            Self::Call => "call",
-            Self::Refused => "events refused",
-        }
-    }
+fields! {
+    Likelihoods "likelihoods" 0
+    Compensations "compensations" 32
+    Counts "counts" 64
+    Unanimous "unanimous shortcut" 80
+    Multibase "multibase shortcut" 83
+    CallFull "call_full" 86
+    Call "call" 88
+    Refused "events refused" 90
 }
 
 /// What a builder answers: both shortcuts, the long calculation, and the call.

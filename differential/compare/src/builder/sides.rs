@@ -20,15 +20,12 @@ const MOST_COUNTED: u64 = u32::MAX as u64;
 pub type Way = (&'static str, fn(u8, u8, u8, &[u8], &mut [u8]) -> u64);
 
 /// All must give the same: with borrowed tables; where each step takes the builder and the tables by
-/// value; and by the functions on a lent builder. No other comparison goes the last two.
+/// value; and by the functions on a lent builder.
 pub static WAYS: [Way; 3] = [
     ("consensus_history", exports::history),
     ("consensus_history_by_value", exports::history_by_value),
     ("consensus_history_lent", exports::history_lent),
 ];
-pub fn other_ways() -> &'static [Way] {
-    &WAYS[1..]
-}
 
 /// What is run: a script on a builder, a new one where there is no state.
 #[derive(Clone, Copy)]

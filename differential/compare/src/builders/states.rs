@@ -81,7 +81,7 @@ pub fn chosen() -> Vec<State> {
 /// A state with these lanes: the winner's, the one after it, in which the Rust's unanimous shortcut
 /// looks for the loser, and the two others. Any base may be the winner.
 fn with_lanes(mut likelihoods: [f64; 4], random: &mut Random) -> State {
-    let winner = random.below(4) as usize;
+    let winner = random.index(4);
     likelihoods.rotate_right(winner);
     State {
         likelihoods,
@@ -103,7 +103,7 @@ fn observed(settings: Settings, random: &mut Random) -> State {
     }
     let mut state = state(&builder);
     if random.below(2) == 0 {
-        let lane = random.below(4) as usize;
+        let lane = random.index(4);
         state.likelihoods[lane] = units_off(state.likelihoods[lane], random);
     }
     state
@@ -153,7 +153,7 @@ fn gap(random: &mut Random) -> f64 {
 /// Where a quality goes over into the next one, and beside that by about the shortcut's margin.
 fn beside_threshold(gaps: &Gaps, random: &mut Random) -> [f64; 4] {
     let winner = if random.below(4) == 0 { -0.0 } else { sum(random) };
-    let level = random.below(gaps.cap as u64 + 1) as usize;
+    let level = random.index(gaps.cap + 1);
     let mut gap = gaps.thresholds[level];
     if level == gaps.cap && random.below(2) == 0 {
         gap += std::f64::consts::LN_2;

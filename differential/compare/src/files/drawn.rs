@@ -69,7 +69,7 @@ pub fn columns(many: u64, depth: fn(&mut Random) -> u64, random: &mut Random) ->
 pub fn usual(random: &mut Random) -> Parts {
     let settings = settings(random);
     let columns = columns(random.below(12), |random| random.below(30), random);
-    let shape = Shape { strings: random.below(9) as usize, length: 8 };
+    let shape = Shape { strings: random.index(9), length: 8 };
     let percent = random.one_of(&[0, 1, 5, 20]);
     Parts::new(settings, columns, family(shape, percent, random))
 }

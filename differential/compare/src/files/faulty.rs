@@ -50,10 +50,10 @@ pub fn changed(random: &mut Random) -> Made {
 pub fn cut(random: &mut Random) -> Made {
     let (mut bytes, counts) = usual(random).written();
     let place = if random.below(2) == 0 {
-        let count = &counts[random.below(counts.len() as u64) as usize];
-        count.start + random.below(count.len() as u64) as usize
+        let count = &counts[random.index(counts.len())];
+        count.start + random.index(count.len())
     } else {
-        random.below(bytes.len() as u64) as usize
+        random.index(bytes.len())
     };
     bytes.truncate(place);
     Made::refused(bytes, CUT_OFF)
@@ -180,7 +180,7 @@ pub fn several(random: &mut Random) -> Made {
 
 /// As few strings as can meet all of them in one column, or some more.
 fn small_shape(random: &mut Random) -> Shape {
-    Shape { strings: 3 + random.below(5) as usize, length: 3 + random.below(8) as usize }
+    Shape { strings: 3 + random.index(5), length: 3 + random.index(8) }
 }
 
 /// Strings of equal length that meet those of the conditions 7 to 9 that are among these, and no
@@ -217,6 +217,6 @@ fn end_or_any(last: usize, random: &mut Random) -> usize {
     match random.below(4) {
         0 => 0,
         1 => last,
-        _ => random.below(last as u64 + 1) as usize,
+        _ => random.index(last + 1),
     }
 }

@@ -134,35 +134,34 @@ pub struct Function {
     bytes: fn(&Listed) -> Vec<u8>,
     /// Whether a refusal, and 10 for too short a buffer, is the reply, and 256 and the length that of
     /// a file that is listed. Else a refusal is written, too, and the reply is the length.
-    by_number: bool,
+    pub by_number: bool,
     /// The counts of its calls, of those that are refused, of too short buffers and of the others.
     pub counts: [&'static str; 4],
 }
 
-/// To compare one more: its line here, and what is printed of it in `files.rs`.
-pub static FUNCTIONS: [Function; 3] = [
-    Function {
-        name: "consensus_list",
-        ours: exports::list,
-        bytes: text,
-        by_number: false,
-        counts: ["calls", "list, refused", "too short", "list, written"],
-    },
-    Function {
-        name: "consensus_listing",
-        ours: exports::listing,
-        bytes: text,
-        by_number: true,
-        counts: ["listing", "listing, refused", "listing, too short", "listing, written"],
-    },
-    Function {
-        name: "consensus_records",
-        ours: exports::records,
-        bytes: records,
-        by_number: true,
-        counts: ["records", "records, refused", "records, too short", "records, written"],
-    },
-];
+macro_rules! functions {
+    ($($name:ident $bytes:ident $by_number:literal)*) => {
+        [$(Function {
+            name: concat!("consensus_", stringify!($name)),
+            ours: exports::$name,
+            bytes: $bytes,
+            by_number: $by_number,
+            counts: [
+                stringify!($name),
+                concat!(stringify!($name), ", refused"),
+                concat!(stringify!($name), ", too short"),
+                concat!(stringify!($name), ", written"),
+            ],
+        }),*]
+    };
+}
+
+/// One more is compared by its line here.
+pub static FUNCTIONS: [Function; 3] = functions! {
+    list text false
+    listing text true
+    records records true
+};
 
 impl Function {
     pub fn answer(&self, found: &Found) -> Answer {

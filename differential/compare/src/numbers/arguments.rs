@@ -55,45 +55,6 @@ pub const ELEMENTARY_LIMITS: [f64; 14] = [
     f64::from_bits(0x3ff0_a2b2_0000_0000), // exp_m1 of the negative: about 3/2 ln 2, then by exp
 ];
 
-/// NaN, the zeros, the infinities, 1 and -1, and the least and the largest numbers of each kind.
-pub fn special_values() -> Vec<f64> {
-    SPECIAL.into_iter().flat_map(both_signs).collect()
-}
-
-/// The numbers just below and just above each of them.
-pub fn neighbours_of_special_values() -> Vec<f64> {
-    SPECIAL.into_iter().flat_map(neighbours).flat_map(both_signs).collect()
-}
-
-/// Each limit, and the numbers just below and just above it.
-pub fn limits_and_neighbours() -> Vec<f64> {
-    let neighbours = ELEMENTARY_LIMITS.into_iter().flat_map(neighbours);
-    ELEMENTARY_LIMITS.into_iter().chain(neighbours).flat_map(both_signs).collect()
-}
-
-pub fn neighbours(x: f64) -> [f64; 2] {
-    [x.next_down(), x.next_up()]
-}
-
-pub fn both_signs(x: f64) -> [f64; 2] {
-    [x, -x]
-}
-
-/// The logarithm of the error probability of each of the 94 Phred scores.
-pub fn phred_points() -> Vec<f64> {
-    (0..=MAX_PHRED).map(phred_to_ln_error_prob).collect()
-}
-
-/// The error probability of each of the 94 Phred scores.
-pub fn phred_probabilities() -> Vec<f64> {
-    phred_points().into_iter().map(f64::exp).collect()
-}
-
-/// 2^-k and its negative, for k from 1 to 70.
-pub fn negative_powers_of_two() -> Vec<f64> {
-    (1..=70).map(|k| 0.5_f64.powi(k)).flat_map(both_signs).collect()
-}
-
 /// The same of the functions of phred.rs.
 pub const PHRED_LIMITS: [f64; 8] = [
     37.0,                    // log1pexp of the negative: up to here by exp alone
@@ -107,44 +68,51 @@ pub const PHRED_LIMITS: [f64; 8] = [
 ];
 
 /// Lanes that a sum must take account of one by one.
-const SPECIAL_LANES: [f64; 12] = [
-    f64::NAN,
-    f64::NEG_INFINITY,
-    f64::INFINITY,
-    f64::MIN,
-    f64::MAX,
-    -33.3,
-    -18.0,
-    -6.0,
-    -1.0,
-    -0.0,
-    0.0,
-    1.0,
-];
+const SPECIAL_LANES: [f64; 12] = {
+    const INFINITY: f64 = f64::INFINITY;
+    [f64::NAN, -INFINITY, INFINITY, f64::MIN, f64::MAX, -33.3, -18.0, -6.0, -1.0, -0.0, 0.0, 1.0]
+};
+
+/// NaN, the zeros, the infinities, 1 and -1, and the least and the largest numbers of each kind.
+pub fn special_values() -> Vec<f64> {
+    both_signs(&SPECIAL)
+}
+
+/// The numbers just below and just above each of them.
+pub fn neighbours_of_special_values() -> Vec<f64> {
+    both_signs(&neighbours(&SPECIAL))
+}
+
+/// Each limit, and the numbers just below and just above it.
+pub fn limits_and_neighbours(limits: &[f64]) -> Vec<f64> {
+    both_signs(&[limits, &neighbours(limits)].concat())
+}
+
+fn neighbours(numbers: &[f64]) -> Vec<f64> {
+    numbers.iter().flat_map(|x| [x.next_down(), x.next_up()]).collect()
+}
+
+pub fn both_signs(numbers: &[f64]) -> Vec<f64> {
+    numbers.iter().flat_map(|x| [*x, -x]).collect()
+}
 
 /// NaN, the zeros, the infinities, 1 and -1, the least and the largest numbers, the limits, and the
 /// numbers just below and just above each.
 pub fn special_numbers() -> Vec<f64> {
-    let limits = PHRED_LIMITS.into_iter().chain(PHRED_LIMITS.into_iter().flat_map(neighbours));
-    let mut numbers = special_values();
-    numbers.extend(neighbours_of_special_values());
-    numbers.extend(limits.flat_map(both_signs));
+    let limits = limits_and_neighbours(&PHRED_LIMITS);
+    let mut numbers = [special_values(), neighbours_of_special_values(), limits].concat();
     numbers.sort_by(f64::total_cmp);
     numbers.dedup_by_key(|number| number.to_bits());
     numbers
 }
 
-/// The logarithm of the error at each level, those above 93 too.
-fn all_phred_points() -> Vec<f64> {
-    (0..=u8::MAX).map(phred_to_ln_error_prob).collect()
+/// The logarithm of the error probability of each of the 94 Phred scores.
+pub fn phred_points() -> Vec<f64> {
+    (0..=MAX_PHRED).map(phred_to_ln_error_prob).collect()
 }
 
 pub fn each(numbers: &[f64]) -> Vec<Arguments> {
     arrays(numbers, 1)
-}
-
-pub fn each_pair(numbers: &[f64]) -> Vec<Arguments> {
-    arrays(numbers, 2)
 }
 
 /// Every array of so many of these numbers.
@@ -168,43 +136,33 @@ fn single_lanes() -> Vec<Arguments> {
     (0..=MOST_LANES).flat_map(|lanes| (0..lanes).map(move |place| single(lanes, place))).collect()
 }
 
-/// Arguments that are chosen, by how many units in the last place an answer may differ there.
-pub struct Chosen {
-    pub name: &'static str,
-    pub allowed: u64,
-    pub arguments: Vec<Arguments>,
-}
+/// Arguments that are chosen: a name, by how many units in the last place an answer may differ there,
+/// and what they are.
+pub type Chosen = (&'static str, u64, Vec<Arguments>);
 
-/// The chosen arguments of an elementary function.
-pub fn chosen_of_elementary() -> Vec<Chosen> {
-    let chosen =
-        |name, allowed, numbers: Vec<f64>| Chosen { name, allowed, arguments: each(&numbers) };
-    vec![
-        chosen("beside a special value", 1, neighbours_of_special_values()),
-        chosen("special values", 0, special_values()),
-    ]
-}
-
-/// The chosen arguments of a function of phred.rs.
 pub fn chosen(function: &Function) -> Vec<Chosen> {
-    let chosen = |name, arguments| Chosen { name, allowed: 0, arguments };
+    // those above 93 too
+    let levels = 0..=u8::MAX;
+    let points: Vec<f64> = levels.clone().map(phred_to_ln_error_prob).collect();
     match function.takes {
-        Takes::Level => vec![chosen("all levels", each(&levels()))],
+        Takes::Number if function.is_elementary() => vec![
+            ("beside a special value", 1, each(&neighbours_of_special_values())),
+            ("special values", 0, each(&special_values())),
+        ],
+        Takes::Level => {
+            vec![("all levels", 0, each(&levels.map(f64::from).collect::<Vec<f64>>()))]
+        }
         Takes::Number => vec![
-            chosen("special values and limits", each(&special_numbers())),
-            chosen("Phred points", each(&all_phred_points())),
+            ("special values and limits", 0, each(&special_numbers())),
+            ("Phred points", 0, each(&points)),
         ],
         Takes::Pair => vec![
-            chosen("special values and limits, each pair", each_pair(&special_numbers())),
-            chosen("Phred points, each pair", each_pair(&all_phred_points())),
+            ("special values and limits, each pair", 0, arrays(&special_numbers(), 2)),
+            ("Phred points, each pair", 0, arrays(&points, 2)),
         ],
         Takes::Lanes => vec![
-            chosen("special values, 0 to 4 lanes", special_lanes()),
-            chosen("one lane above -infinity", single_lanes()),
+            ("special values, 0 to 4 lanes", 0, special_lanes()),
+            ("one lane above -infinity", 0, single_lanes()),
         ],
     }
-}
-
-fn levels() -> Vec<f64> {
-    (0..=u8::MAX).map(f64::from).collect()
 }

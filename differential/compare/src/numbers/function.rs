@@ -20,22 +20,10 @@ pub enum Takes {
     Lanes,
 }
 
-/// What an argument or an answer is. A level is handed over as a number, too.
-#[derive(Clone, Copy, PartialEq, Eq)]
-enum Kind {
-    Number,
-    Level,
-}
-
-impl Kind {
-    /// As it stands in the stored list and in the table: the bit pattern, or the level itself.
-    fn word(self, x: f64) -> String {
-        let word = match self {
-            Self::Number => stored_bits(x),
-            Self::Level => x as u64,
-        };
-        format!("{word:016x}")
-    }
+/// A number as it stands in the stored list and in the table: its bit pattern, or a level itself. A
+/// level is handed over as a number, too.
+fn word(x: f64, is_level: bool) -> String {
+    format!("{:016x}", if is_level { x as u64 } else { stored_bits(x) })
 }
 
 /// A function as both sides have it, and its formula.
@@ -45,7 +33,8 @@ pub struct Function {
     /// Its letter in the stored list and in a recorded call.
     pub letter: u8,
     pub takes: Takes,
-    answer: Kind,
+    /// Whether the answer is one.
+    gives_level: bool,
     ours: fn(&[f64]) -> f64,
     rust: fn(&[f64]) -> f64,
     /// None where there is no elementary function in it, or nothing else.
@@ -75,7 +64,7 @@ macro_rules! functions {
             name: stringify!($name),
             letter: $letter,
             takes: Takes::$takes,
-            answer: Kind::$answer,
+            gives_level: matches!(Takes::$answer, Takes::Level),
             ours: call!($takes, exports::$name),
             rust: call!($takes, $module::$name),
             formula: $formula,
@@ -106,6 +95,10 @@ functions! { PHRED, 11:
 }
 
 impl Function {
+    pub fn is_elementary(&self) -> bool {
+        ELEMENTARY.iter().any(|function| function.letter == self.letter)
+    }
+
     /// What both sides answer. The Rust's arguments are hidden from the compiler, which could else
     /// work out an answer by itself instead of asking the C library.
     pub fn answers(&'static self, arguments: Arguments) -> Answers {
@@ -153,10 +146,7 @@ impl Answers {
     }
 
     fn between(&self, a: f64, b: f64) -> u64 {
-        match self.function.answer {
-            Kind::Number => ulps(a, b),
-            Kind::Level => (a as u64).abs_diff(b as u64),
-        }
+        if self.function.gives_level { (a as u64).abs_diff(b as u64) } else { ulps(a, b) }
     }
 
     /// Whether the last bit of an elementary function is why they differ: ours is the formula's
@@ -174,22 +164,21 @@ impl Answers {
 
     /// The arguments' words, one space between.
     pub fn arguments(&self) -> String {
-        let level = self.function.takes == Takes::Level;
-        let kind = if level { Kind::Level } else { Kind::Number };
-        let words = self.arguments.values().iter().map(|&x| kind.word(x));
+        let is_level = self.function.takes == Takes::Level;
+        let words = self.arguments.values().iter().map(|&x| word(x, is_level));
         words.collect::<Vec<String>>().join(" ")
     }
 
     pub fn ours(&self) -> String {
-        self.function.answer.word(self.ours)
+        word(self.ours, self.function.gives_level)
     }
 
     pub fn rust(&self) -> String {
-        self.rust.map_or("panics".to_owned(), |rust| self.function.answer.word(rust))
+        self.rust.map_or("panics".to_owned(), |rust| word(rust, self.function.gives_level))
     }
 
     /// The answer as it stands in the stored list.
     pub fn stored(&self) -> String {
-        self.function.answer.word(self.demanded())
+        word(self.demanded(), self.function.gives_level)
     }
 }

@@ -34,7 +34,7 @@ impl Draw {
                 random.signed(magnitude)
             }
             Self::Beside(numbers) => {
-                let number = numbers[random.below(numbers.len() as u64) as usize];
+                let number = numbers[random.index(numbers.len())];
                 let beside = beside(random, number);
                 random.signed(beside)
             }
@@ -249,7 +249,7 @@ fn pair(a: f64, b: f64, random: &mut Random) -> Arguments {
 /// Lanes, of which each is drawn in view of those before it.
 fn lanes(random: &mut Random, lane: fn(&[f64], &mut Random) -> f64) -> Arguments {
     let usual = random.below(4) > 0;
-    let count = if usual { USUAL_LANES } else { random.below(MOST_LANES as u64 + 1) as usize };
+    let count = if usual { USUAL_LANES } else { random.index(MOST_LANES + 1) };
     let mut values = [0.0; MOST_LANES];
     for place in 0..count {
         values[place] = lane(&values[..place], random);

@@ -3,8 +3,6 @@
 use std::io::{self, BufRead, BufReader, Read};
 use std::process::{Command, Stdio};
 
-use recorder::Call;
-
 use super::function::ELEMENTARY;
 
 /// Runs `recorder`, which is built beside this program, and hands each call on as it comes: the
@@ -17,8 +15,10 @@ pub fn for_each(mut take: impl FnMut(usize, f64, f64)) -> io::Result<()> {
         .map_err(|error| io::Error::other(format!("{}: {error}", program.display())))?;
     let mut output = BufReader::with_capacity(1 << 16, child.stdout.take().expect("it is piped"));
     while !output.fill_buf()?.is_empty() {
-        let call = read_call(&mut output)?;
-        take(index_of(call.letter), f64::from_bits(call.argument), f64::from_bits(call.answer));
+        let [letter, argument, answer] = read_call(&mut output)?;
+        let index = ELEMENTARY.iter().position(|function| u64::from(function.letter) == letter);
+        let index = index.expect("the recorder has the same letters");
+        take(index, f64::from_bits(argument), f64::from_bits(answer));
     }
     let status = child.wait()?;
     if status.success() { Ok(()) } else { Err(io::Error::other(format!("recorder: {status}"))) }
@@ -35,13 +35,9 @@ pub fn different_arguments() -> io::Result<[Vec<f64>; ELEMENTARY.len()]> {
     Ok(arguments)
 }
 
-fn read_call(input: &mut impl Read) -> io::Result<Call> {
-    let mut bytes = [0; Call::SIZE];
-    input.read_exact(&mut bytes)?;
-    Ok(Call::from_bytes(bytes))
-}
-
-fn index_of(letter: u8) -> usize {
-    let index = ELEMENTARY.iter().position(|function| function.letter == letter);
-    index.expect("the recorder has the same letters")
+/// The function's letter, the argument's bits and the answer's, each with the low byte first.
+fn read_call(input: &mut impl Read) -> io::Result<[u64; 3]> {
+    let mut call = [[0; 8]; 3];
+    input.read_exact(call.as_flattened_mut())?;
+    Ok(call.map(u64::from_le_bytes))
 }

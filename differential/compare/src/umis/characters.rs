@@ -61,7 +61,7 @@ fn compared(all: &[Asking], found: fn(Given) -> Found) -> Row {
             }
             let found = found(given);
             for asked in Asked::ways(*function, DEFAULTS) {
-                row.compare_asked(asked, &set, ROOM, &found);
+                row.compare_asked(asked, &set, &found, |_| vec![ROOM]);
             }
         }
     }

@@ -49,7 +49,7 @@ fn named() -> Row {
         row.compare_set(&set);
         for function in functions {
             let asked = Asked { function: *function as u8, rates: None };
-            row.compare_asked(asked, &set, room, &answer);
+            row.compare_asked(asked, &set, &answer, |_| vec![room]);
             let Some(found) = row.found_of_set(*function, DEFAULTS, &set) else {
                 continue;
             };
@@ -130,9 +130,8 @@ fn absent_functions() -> Row {
             let by_itself = (function > 3).then_some(None);
             let of_caller = (function > 3 || function == 2).then_some(Some(DEFAULTS));
             for rates in by_itself.into_iter().chain(of_caller) {
-                for room in [0, 1, ROOM] {
-                    row.compare_asked(Asked { function, rates }, set, room, &Err(0));
-                }
+                let rooms = |_| vec![0, 1, ROOM];
+                row.compare_asked(Asked { function, rates }, set, &Err(0), rooms);
             }
         }
     }
@@ -141,22 +140,15 @@ fn absent_functions() -> Row {
 
 /// A set for each two bytes.
 fn pairs_of_bytes(name: &str, set: fn(u8, u8) -> Vec<u8>) -> Row {
-    let mut row = Row::new(name);
-    for pair in 0..=u16::MAX {
-        let [first, second] = pair.to_be_bytes();
-        row.compare_set(&set(first, second));
-    }
-    row
+    let pairs = (0..=u16::MAX).map(u16::to_be_bytes);
+    Row::of_sets(name, pairs.map(|[first, second]| set(first, second)))
 }
 
 /// Each set of up to so many of these strings.
 fn all_sets(name: &str, strings: &[Vec<u8>], most: u32) -> Row {
-    let mut row = Row::new(name);
     let strings: Vec<&[u8]> = strings.iter().map(|string| &string[..]).collect();
-    for set in (0..=most).flat_map(|count| lists(&strings, count)) {
-        row.compare_set(&written(&set));
-    }
-    row
+    let sets = (0..=most).flat_map(|count| lists(&strings, count));
+    Row::of_sets(name, sets.map(|set| written(&set)))
 }
 
 /// Each string of up to so many bytes of an alphabet, the short ones first.

@@ -14,21 +14,9 @@ use crate::tally::Row;
 const ABSENT: [u8; 4] = [2, 4, 128, 255];
 
 /// What must have been demanded. 10 is no set's: the buffer is tested for the whole sequence.
-const DEMANDED: [&str; 13] = [
-    "1",
-    "2",
-    "5",
-    "6",
-    "7",
-    "8",
-    "9",
-    "accepted",
-    "a builder that is left by an accepted set",
-    "a builder that is left by a refused set",
-    "0, of no function",
-    "0, for a length",
-    "0, for too short a buffer",
-];
+const DEMANDED: &str = "1 | 2 | 5 | 6 | 7 | 8 | 9 | accepted | a builder that is left by an accepted \
+     set | a builder that is left by a refused set | 0, of no function | 0, for a \
+     length | 0, for too short a buffer";
 
 /// The chosen sets in a row, and so many drawn sequences.
 pub fn row(sequences: u64, random: &mut Random) -> Row {
@@ -59,7 +47,7 @@ pub fn print(row: &Row) -> bool {
          function, {0, for a length} for a length, {0, for too short a buffer} for the buffer; \
          {differ} differ",
     );
-    let demanded = row.counts.all_demanded("umis: never demanded of a sequence", &DEMANDED);
+    let demanded = row.counts.all_demanded("umis: never demanded of a sequence", DEMANDED);
     row.counts.of("differ") == 0 && demanded
 }
 
@@ -68,48 +56,36 @@ pub fn print(row: &Row) -> bool {
 fn compare(function: Function, rates: Rates, sets: &[Vec<u8>], random: &mut Random, row: &mut Row) {
     row.counts.one("sequences");
     let (which, sequence) = (function as u8, joined(sets));
-    let bytes = match answer(function, rates, sets, row) {
-        Ok(bytes) => bytes,
+    let answer = match answer(function, rates, sets, row) {
+        Ok(bytes) => Answer::length_of(bytes),
         Err(problem) => {
             return row.differs(sequence.len(), || format!("{}: {problem}", name(which)));
         }
     };
-    let needed = bytes.len();
-    let answer = Answer::length_of(bytes);
-    for room in [needed, needed + 1 + random.below(100) as usize] {
-        compare_call(which, rates, &sequence, room, &answer, row);
+    let Rates { pre, post, quality } = rates;
+    let mut compare_call = |which: u8, input: &[u8], room: usize, count, answer: &Answer| {
+        row.counts.one("calls");
+        row.counts.one(count);
+        let function = name(which);
+        let name =
+            || format!("consensus_umi_sets, {function} of a caller with {pre} {post} {quality}");
+        let ours =
+            |sets: &[u8], out: &mut [u8]| exports::umi_sets(pre, post, quality, which, sets, out);
+        row.compare(&Call { name: &name, ours: &ours, input, room }, answer);
+    };
+    let needed = answer.bytes.len();
+    let larger = needed + 1 + random.index(100);
+    for room in [needed, larger, 0, needed / 2, needed.saturating_sub(1)] {
+        let count = if room < needed { "0, for too short a buffer" } else { "answered" };
+        compare_call(which, &sequence, room, count, &answer);
     }
-    for room in [0, needed / 2, needed.saturating_sub(1)] {
-        row.counts.add("0, for too short a buffer", room < needed);
-        compare_call(which, rates, &sequence, room, &answer, row);
-    }
+    let refused = Answer::number(0);
     for absent in ABSENT {
-        row.counts.one("0, of no function");
-        compare_call(absent, rates, &sequence, needed, &Answer::number(0), row);
+        compare_call(absent, &sequence, needed, "0, of no function", &refused);
     }
     for damaged in damaged(&sequence, random) {
-        row.counts.one("0, for a length");
-        compare_call(which, rates, &damaged, needed, &Answer::number(0), row);
+        compare_call(which, &damaged, needed, "0, for a length", &refused);
     }
-}
-
-fn compare_call(
-    which: u8,
-    rates: Rates,
-    input: &[u8],
-    room: usize,
-    answer: &Answer,
-    row: &mut Row,
-) {
-    row.counts.one("calls");
-    let Rates { pre, post, quality } = rates;
-    let name = || {
-        let function = name(which);
-        format!("consensus_umi_sets, {function} of a caller with {pre} {post} {quality}")
-    };
-    let ours =
-        |sets: &[u8], out: &mut [u8]| exports::umi_sets(pre, post, quality, which, sets, out);
-    row.compare(&Call { name: &name, ours: &ours, input, room }, answer);
 }
 
 /// Cut within a set or a length, with a length that is too large, and with bytes of one behind.
@@ -117,7 +93,7 @@ fn damaged(sequence: &[u8], random: &mut Random) -> Vec<Vec<u8>> {
     let behind = [&[0], &[0; 3][..], &[1, 0, 0, 0], &[255; 4]];
     let mut all: Vec<Vec<u8>> = behind.iter().map(|behind| [sequence, behind].concat()).collect();
     if !sequence.is_empty() {
-        let cut = &sequence[..random.below(sequence.len() as u64) as usize];
+        let cut = &sequence[..random.index(sequence.len())];
         let rest = &sequence[4..];
         let longer = (rest.len() as u32 + 1).to_le_bytes();
         all.extend([cut.to_vec(), [&longer, rest].concat()]);
@@ -195,7 +171,7 @@ fn drawn_set(random: &mut Random) -> Vec<u8> {
     let shape = if random.below(16) == 0 { shape(random) } else { small_shape(random) };
     let mut set = written(&any_kind(shape, random));
     match random.below(16) {
-        0 => set.truncate(random.below(set.len() as u64) as usize),
+        0 => set.truncate(random.index(set.len())),
         1 => set.push(random.byte()),
         _ => (),
     }

@@ -4,9 +4,9 @@ use oracle::phred::phred_to_ln_error_prob;
 
 use super::List;
 use crate::numbers::arguments::{
-    Arguments, USUAL_LANES, arrays, chosen, each, each_pair, limits_and_neighbours,
-    negative_powers_of_two, neighbours_of_special_values, phred_points, phred_probabilities,
-    special_numbers, special_values,
+    Arguments, ELEMENTARY_LIMITS, USUAL_LANES, arrays, both_signs, chosen, each,
+    limits_and_neighbours, neighbours_of_special_values, phred_points, special_numbers,
+    special_values,
 };
 use crate::numbers::function::{Answers, ELEMENTARY, Function, PHRED, Takes};
 use crate::numbers::ranges::{Demand, ranges};
@@ -93,17 +93,18 @@ impl List {
 
 /// Arguments that are stored whatever else is.
 fn elementary_always_stored(function: &Function) -> Vec<f64> {
-    let mut chosen = neighbours_of_special_values();
-    chosen.extend(limits_and_neighbours());
-    chosen.extend(negative_powers_of_two());
-    chosen.extend(phred_points());
-    // The caller takes logarithms of probabilities p, and of 1 - p by ln_1p.
-    match function.letter {
-        b'l' => chosen.extend(phred_probabilities()),
-        b'p' => chosen.extend(phred_probabilities().into_iter().flat_map(|p| [p, -p])),
-        _ => (),
-    }
-    chosen
+    let powers: Vec<f64> = (1..=70).map(|k| 0.5_f64.powi(k)).collect();
+    // the caller takes logarithms of probabilities p, and of 1 - p by ln_1p
+    let probabilities = phred_points().into_iter().map(f64::exp).collect::<Vec<f64>>();
+    let limits = limits_and_neighbours(&ELEMENTARY_LIMITS);
+    let more = match function.letter {
+        b'l' => probabilities,
+        b'p' => both_signs(&probabilities),
+        _ => Vec::new(),
+    };
+    let chosen =
+        [neighbours_of_special_values(), limits, both_signs(&powers), phred_points(), more];
+    chosen.concat()
 }
 
 /// So many of the arguments, at even distances from the first to the last.
@@ -114,29 +115,24 @@ fn evenly(arguments: &[f64], many: usize) -> Vec<f64> {
 
 /// The same of a function of phred.rs.
 fn phred_always_stored(function: &'static Function, random: &mut Random) -> Vec<Arguments> {
+    const INFINITY: f64 = f64::INFINITY;
     match function.takes {
-        Takes::Level => chosen(function).into_iter().flat_map(|chosen| chosen.arguments).collect(),
+        Takes::Level => chosen(function).into_iter().flat_map(|(.., levels)| levels).collect(),
+        // the logarithm of level 94 comes back as 93
         Takes::Number => {
-            each(&[special_numbers(), phred_points(), vec![above_the_highest()]].concat())
+            each(&[special_numbers(), phred_points(), vec![phred_to_ln_error_prob(94)]].concat())
         }
         Takes::Pair => {
-            let mut pairs =
-                each_pair(&[f64::NAN, f64::NEG_INFINITY, f64::INFINITY, -0.0, 0.0, 1.0]);
-            pairs.extend(special_pairs());
-            pairs.extend(phred_pairs(random));
-            pairs
+            let pairs = arrays(&[f64::NAN, -INFINITY, INFINITY, -0.0, 0.0, 1.0], 2);
+            [pairs, special_pairs(), phred_pairs(random)].concat()
         }
+        // -infinity beside a number, beside NaN, and infinity beside NaN, in every way
         Takes::Lanes => {
-            let mut lanes = infinite_lanes();
-            lanes.extend(special_lanes(random));
-            lanes
+            let beside = [[-INFINITY, -1.0], [-INFINITY, f64::NAN], [INFINITY, f64::NAN]];
+            let infinite = beside.iter().flat_map(|lanes| arrays(lanes, USUAL_LANES));
+            infinite.chain(special_lanes(random)).collect()
         }
     }
-}
-
-/// The logarithm of level 94, which comes back as 93.
-fn above_the_highest() -> f64 {
-    phred_to_ln_error_prob(94)
 }
 
 /// Each special number before and after 0, so that a limit is how far they are apart.
@@ -150,14 +146,6 @@ fn phred_pairs(random: &mut Random) -> Vec<Arguments> {
     let others = random.shuffled(phred_points());
     let pairs = phred_points().into_iter().zip(others).step_by(2);
     pairs.map(|(one, other)| Arguments::new(&[one.max(other), one.min(other)])).collect()
-}
-
-/// Four lanes: -infinity beside a number, beside NaN, and infinity beside NaN, in every way.
-fn infinite_lanes() -> Vec<Arguments> {
-    [[f64::NEG_INFINITY, -1.0], [f64::NEG_INFINITY, f64::NAN], [f64::INFINITY, f64::NAN]]
-        .into_iter()
-        .flat_map(|lanes| arrays(&lanes, USUAL_LANES))
-        .collect()
 }
 
 /// Four lanes, one of them a special number: each number once, in each lane by turns.
