@@ -3,7 +3,6 @@
 pub mod cause;
 pub mod draws;
 pub mod formula;
-pub mod known;
 pub mod observed;
 pub mod refused;
 pub mod report;
@@ -13,7 +12,7 @@ pub mod ties;
 
 use std::fmt;
 
-use oracle::base_builder::TieRule;
+use oracle::base_builder::{ConsensusBaseBuilder, TieRule};
 
 /// The lanes, in their order.
 pub const BASES: [u8; 4] = *b"ACGT";
@@ -24,6 +23,20 @@ pub struct Settings {
     pub pre: u8,
     pub post: u8,
     pub rule: u8,
+}
+
+/// The rates that the source calls typical, under its default rule.
+pub const TYPICAL: Settings = Settings { pre: 45, post: 40, rule: 0 };
+
+impl Settings {
+    pub fn bytes(self) -> [u8; 3] {
+        [self.pre, self.post, self.rule]
+    }
+
+    /// A builder of the Rust.
+    pub fn rust_builder(self) -> ConsensusBaseBuilder {
+        ConsensusBaseBuilder::new(self.pre, self.post).with_tie_rule(rule_of(self.rule))
+    }
 }
 
 impl fmt::Display for Settings {

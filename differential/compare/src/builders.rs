@@ -1,50 +1,40 @@
 //! Builders of any state, ours beside the Rust's: also those that no list of observations gives.
 
-mod states;
-pub mod tally;
-mod totals;
-pub mod vectors;
+pub mod states;
+
+use oracle::base_builder::accessors::State;
 
 use self::states::{KINDS, chosen};
-use self::tally::Tally;
-use crate::builder::script::{ADD, REPORT, RULE, Script};
-use crate::builder::{Settings, draws, refused};
+use crate::builder::cause::{Cause, causes};
+use crate::builder::report::{Field, Report, difference, state_bytes};
+use crate::builder::script::{ADD, REPORT, RULE, Script, rules_at_reports};
+use crate::builder::sides::Run;
+use crate::builder::{Settings, TYPICAL, draws, observed, refused, rule_of};
 use crate::environment;
 use crate::random::Random;
+use crate::tally::{Row, print_table, verdict};
 
 /// How many observations the longest script has; a report counts 255 refused ones at most.
 const REFUSED: usize = 260;
 
+/// How many differences without a known cause are printed.
+const EXAMPLES: usize = 5;
+
+/// What is printed of the states of a kind. Known are those reports that differ whose causes all are.
+const HEAD: &str = "state | builders | reports | unanimous | multibase | N called | differ | known";
+
 /// Compares so many builders, prints tables, and says whether each difference has a known cause.
 pub fn run(builders: u64, seed: u64) -> bool {
-    println!("builders: ours beside the Rust's, seed {seed}, {}", environment::c_library());
+    environment::print_start("builders", seed);
     let mut tally = Tally::default();
-    compare_chosen(&mut tally);
-    compare_drawn(builders, seed, &mut tally);
-    tally.print();
-    let all_refused = refused::of_builders();
-    let holds = tally.holds() && all_refused;
-    println!("builders: {}", if holds { "as demanded" } else { "FAILED" });
-    holds
-}
-
-fn compare_chosen(tally: &mut Tally) {
     // the short one first, so that it is the one which is printed
     for script in [short_script(), long_script()] {
-        let settings = Settings { pre: 45, post: 40, rule: 0 };
-        chosen().iter().for_each(|state| tally.compare(KINDS.len(), settings, state, &script));
+        chosen().iter().for_each(|state| tally.compare(KINDS.len(), TYPICAL, state, &script));
     }
-}
-
-/// Compares so many builders, besides those that are counted already.
-pub fn compare_drawn(builders: u64, seed: u64, tally: &mut Tally) {
-    let mut random = Random::new(seed);
-    for turn in 0..builders {
-        let kind = (turn % KINDS.len() as u64) as usize;
-        let settings = draws::settings(random.below(512), &mut random);
-        let state = (KINDS[kind].draw)(settings, &mut random);
-        tally.compare(kind, settings, &state, &script(settings.rule, &mut random));
-    }
+    tally.compare_drawn(builders, seed);
+    tally.print();
+    let all_refused = refused::of_builders();
+    verdict("builders", tally.holds() && all_refused)
 }
 
 /// Reports under both rules and after an observation.
@@ -77,4 +67,198 @@ fn script(mut rule: u8, random: &mut Random) -> Script {
         script.report(random);
     }
     script
+}
+
+/// What came out of comparing many builders.
+pub struct Tally {
+    /// By the kinds of the states, those that are chosen last.
+    kinds: Vec<Row>,
+    /// The causes that are known, and the builders for which there are no reports to compare.
+    pub all: Row,
+    /// What the builders have counted.
+    observed: Row,
+    /// Builders that refused observations; reports of counts whose total is 2^32 or more. There the
+    /// Rust's `add` and `contributions` panic in a debug build and wrap in a release build, as this is.
+    refused: Row,
+    wrapped: Row,
+    /// Reports that differ for no known cause by their fields, and the first ones.
+    unknown: Vec<Row>,
+    examples: Vec<String>,
+}
+
+impl Default for Tally {
+    fn default() -> Self {
+        let names = KINDS.iter().map(|(name, _)| *name).chain(["chosen one by one"]);
+        let mut all = Row::default();
+        // each has its line, also where it does not occur
+        all.known = Cause::known().into_iter().map(|cause| Row::new(cause.name())).collect();
+        Self {
+            kinds: names.map(Row::new).collect(),
+            all,
+            observed: Row::default(),
+            refused: Row::default(),
+            wrapped: Row::default(),
+            unknown: Field::ALL.iter().map(|field| Row::new(field.name())).collect(),
+            examples: Vec::new(),
+        }
+    }
+}
+
+impl Tally {
+    /// Compares so many builders, besides those that are counted already.
+    pub fn compare_drawn(&mut self, builders: u64, seed: u64) {
+        let mut random = Random::new(seed);
+        for turn in 0..builders {
+            let kind = turn as usize % KINDS.len();
+            let settings = draws::settings(random.below(512), &mut random);
+            let state = KINDS[kind].1(settings, &mut random);
+            self.compare(kind, settings, &state, &script(settings.rule, &mut random));
+        }
+    }
+
+    /// Compares a builder of a kind, by its place in the list.
+    fn compare(&mut self, kind: usize, settings: Settings, state: &State, script: &Script) {
+        let state = state_bytes(state, f64::to_bits);
+        let run = Run { settings, state: Some(&state), script: &script.bytes };
+        self.kinds[kind].counts.one("builders");
+        let observed = &mut self.observed;
+        let rust =
+            run.rust_seen(|builder, report| observed::compare(builder, report, settings, observed));
+        let ours = match run.ours(script.reports) {
+            Ok(ours) => ours,
+            Err(problem) => {
+                self.all.counts.one("failed");
+                return self.keep(&run, &problem);
+            }
+        };
+        let rules = rules_at_reports(settings.rule, &script.bytes);
+        for ((ours, rust), rule) in ours.iter().zip(&rust).zip(rules) {
+            self.count(kind, &run, rule, ours, rust);
+        }
+        self.count_totals(&run, &rust);
+    }
+
+    fn count(&mut self, kind: usize, run: &Run, rule: u8, ours: &Report, rust: &Report) {
+        let of_kind = &mut self.kinds[kind].counts;
+        of_kind.one("reports");
+        of_kind.add("unanimous", rust.replies(Field::Unanimous));
+        of_kind.add("multibase", rust.replies(Field::Multibase));
+        of_kind.add("N called", rust.no_call());
+        let causes = causes(ours, rust, run.settings.pre, rule_of(rule));
+        let is_known = !causes.contains(&Cause::Unknown);
+        // also where nothing differs: both may have the same wrong answer
+        if ours == rust && is_known {
+            return;
+        }
+        of_kind.one("differ");
+        of_kind.add("known", is_known);
+        if is_known {
+            let another_call = ours.field(Field::Call) != rust.field(Field::Call);
+            let example = || example(Settings { rule, ..run.settings }, ours, rust);
+            let causes = causes.into_iter();
+            return causes.for_each(|cause| self.all.knows(&cause.name(), another_call, example));
+        }
+        for field in ours.differing(rust) {
+            self.unknown[field as usize].counts.one("differ");
+        }
+        if ours == rust {
+            self.keep(run, "the same on both sides, but not as the formulas have it");
+        } else {
+            self.keep(run, &difference(ours, rust));
+        }
+    }
+
+    fn count_totals(&mut self, run: &Run, rust: &[Report]) {
+        if rust.last().is_some_and(|report| report.refused() > 0) {
+            self.refused.counts.one("refused");
+            self.refused.keep(0, || run.to_string());
+        }
+        for report in rust {
+            let total: u64 = report.counts().into_iter().map(u64::from).sum();
+            self.wrapped.counts.add("wrapped", total >> 32 > 0);
+            if total >> 32 > 0 && total as u32 == 0 {
+                self.wrapped.counts.one("wrapped to 0");
+                self.wrapped.keep(0, || run.to_string());
+            }
+        }
+    }
+
+    fn keep(&mut self, run: &Run, problem: &str) {
+        if self.examples.len() < EXAMPLES {
+            self.examples.push(format!("builders: {problem}: {run}"));
+        }
+    }
+
+    /// What differs for no known cause, and how to see it again.
+    pub fn examples(&self) -> Vec<String> {
+        let observed = self.observed.example().map(|example| format!("builders: {example}"));
+        self.examples.iter().cloned().chain(observed).collect()
+    }
+
+    /// Of all kinds together.
+    pub fn sum(&self) -> Row {
+        Row::sum(self.kinds.iter().chain([&self.all]))
+    }
+
+    /// Reports that differ for no known cause, builders without their reports, and those whose counts
+    /// differ.
+    pub fn unexplained(&self) -> u64 {
+        let all = self.sum().counts;
+        all.of("differ") - all.of("known") + all.of("failed") + self.observed.counts.of("differ")
+    }
+
+    fn holds(&self) -> bool {
+        observed::holds(&self.observed) && self.unexplained() == 0
+    }
+
+    fn print(&self) {
+        let mut sum = self.sum();
+        print_table(HEAD, &self.kinds);
+        print_table("known difference | reports | another call", &self.all.known);
+        print_known(&self.all);
+        let for_example = |row: &Row| {
+            row.example().map_or(String::new(), |example| format!(", for example {example}"))
+        };
+        self.refused.counts.tell(
+            &("builders: {refused} builders refused observations (11), which the Rust was spared"
+                .to_owned()
+                + &for_example(&self.refused)),
+        );
+        self.wrapped.counts.tell(
+            &("builders: {wrapped} reports of counts that total 2^32 or more, {wrapped to 0} of them 0 \
+               by 2^32"
+                .to_owned()
+                + &for_example(&self.wrapped)),
+        );
+        for row in self.unknown.iter().filter(|row| row.counts.of("differ") > 0) {
+            let (field, many) = (&row.name, row.counts.of("differ"));
+            println!("builders: {field}: {many} reports differ for no known cause");
+        }
+        self.examples().iter().for_each(|example| println!("{example}"));
+        let otherwise = sum.counts.of("differ") - sum.counts.of("known");
+        sum.counts.add("otherwise", otherwise);
+        sum.counts.tell(
+            "builders: {builders} builders, {reports} reports; {known} differ for a known cause, \
+             {otherwise} otherwise; {failed} builders without the bytes of their reports",
+        );
+        observed::print("builders", &self.observed);
+    }
+}
+
+/// One of the differences of each known cause.
+pub fn print_known(all: &Row) {
+    for (name, _, example) in all.known() {
+        println!("builders: {name}: {example}");
+    }
+}
+
+/// The state alone is enough to see the report again.
+fn example(settings: Settings, ours: &Report, rust: &Report) -> String {
+    let run = Run { settings, state: Some(&rust.state()), script: &[REPORT, 0, 0] };
+    format!(
+        "likelihoods {}, counts {}: {}: {run}",
+        rust.likelihoods().map(|lane| format!("{lane:?}")).join(" "),
+        rust.words(Field::Counts),
+        difference(ours, rust),
+    )
 }

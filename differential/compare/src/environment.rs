@@ -6,6 +6,11 @@ unsafe extern "C" {
     safe fn gnu_get_libc_version() -> *const c_char;
 }
 
+/// Prints how a command starts.
+pub fn print_start(command: &str, seed: u64) {
+    println!("{command}: ours beside the Rust's, seed {seed}, {}", c_library());
+}
+
 /// The C library that answers for the Rust. It has one way of computing for processors with fused
 /// multiply-add and one for those without, and the last bits of the two differ.
 pub fn c_library() -> String {

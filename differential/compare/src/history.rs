@@ -1,86 +1,61 @@
 //! One script again, both sides' reports field by field.
 
 use crate::builder::cause::causes;
-use crate::builder::observed::Observed;
-use crate::builder::report::{Field, Report, STATE_BYTES};
+use crate::builder::report::{Field, Report, STATE_BYTES, StateBytes};
 use crate::builder::script::{ADD, Event, REPORT, RESET, RULE, events, rules_at_reports};
-use crate::builder::sides::{Run, StateBytes, Way};
-use crate::builder::{RULES, Settings, rule_of};
+use crate::builder::sides::{Run, WAYS};
+use crate::builder::{RULES, Settings, observed, rule_of};
 use crate::hexadecimal::bytes;
 use crate::table::Table;
+use crate::tally::Row;
 
-/// What is to be run again.
-pub struct Again {
-    settings: Settings,
-    script: Vec<u8>,
-    state: Option<StateBytes>,
-}
-
-impl Again {
-    /// From the words that a difference is printed with: rates and rule, then the script and, where
-    /// the builder is not a new one, its state as hexadecimal digits.
-    pub fn read(words: &[&str]) -> Result<Self, String> {
-        let ([pre, post, rule, script], rest) =
-            words.split_first_chunk().ok_or("a history has two rates, a rule and a script")?;
-        let byte = |text: &str| text.parse().map_err(|_| format!("{text} is no byte"));
-        let settings = Settings { pre: byte(pre)?, post: byte(post)?, rule: byte(rule)? };
-        let script = bytes(script)?;
-        if settings.rule as usize >= RULES.len() || !is_script(&script) {
-            return Err("no such rule, or no such event".to_owned());
-        }
-        let state = match rest {
-            [] => None,
-            [state] => Some(read_state(state)?),
-            _ => return Err("a history has one state at most".to_owned()),
-        };
-        Ok(Self { settings, script, state })
+/// Runs a history again, prints the reports, and says whether they are the same; or what is wrong with
+/// the words. A difference is printed with these: rates and rule, then the script and, where the builder
+/// is not a new one, its state as hexadecimal digits.
+pub fn run(words: &[&str]) -> Result<bool, String> {
+    let ([pre, post, rule, script], rest) =
+        words.split_first_chunk().ok_or("a history has two rates, a rule and a script")?;
+    let byte = |text: &str| text.parse().map_err(|_| format!("{text} is no byte"));
+    let settings = Settings { pre: byte(pre)?, post: byte(post)?, rule: byte(rule)? };
+    let script = bytes(script)?;
+    if settings.rule as usize >= RULES.len() || !is_script(&script) {
+        return Err("no such rule, or no such event".to_owned());
     }
-
-    /// Prints the reports, and says whether they are the same.
-    pub fn run(&self) -> bool {
-        let run = Run { settings: self.settings, state: self.state.as_ref(), script: &self.script };
-        let mut observed = Observed::default();
-        let rust =
-            run.rust_seen(|builder, report| observed.compare(builder, report, self.settings));
-        let ours = match run.ours(rust.len()) {
-            Ok(ours) => ours,
-            Err(problem) => {
-                println!("history: {problem}");
-                return false;
-            }
-        };
-        let rules = rules_at_reports(self.settings.rule, &self.script);
-        for ((ours, rust), rule) in ours.iter().zip(&rust).zip(rules) {
-            println!("report under {:?}", rule_of(rule));
-            print!("{}", table(ours, rust).aligned());
-            for cause in causes(ours, rust, self.settings.pre, rule_of(rule)) {
-                println!("cause: {}", cause.name());
-            }
+    let state = match rest {
+        [] => None,
+        [state] => Some(read_state(state)?),
+        _ => return Err("a history has one state at most".to_owned()),
+    };
+    let run = Run { settings, state: state.as_ref(), script: &script };
+    let mut observed = Row::default();
+    let rust = run.rust_seen(|builder, report| {
+        observed::compare(builder, report, settings, &mut observed);
+    });
+    let ours = match run.ours(rust.len()) {
+        Ok(ours) => ours,
+        Err(problem) => {
+            println!("history: {problem}");
+            return Ok(false);
         }
-        observed.example.iter().for_each(|example| println!("{example}"));
-        let ways_are_same = self.ways_are_same(&run, &rust);
-        let same = ours == rust && observed.differing == 0 && ways_are_same;
-        println!(
-            "history: {} reports, {}",
-            rust.len(),
-            if same { "the same" } else { "DIFFERENT" }
-        );
-        same
-    }
-
-    /// Prints which of the other ways to the reports on a new builder leads elsewhere, and says
-    /// whether none does.
-    fn ways_are_same(&self, run: &Run, rust: &[Report]) -> bool {
-        let differs = |way: &Way| {
-            self.state.is_none() && run.ours_by(*way, rust.len()).ok().as_deref() != Some(rust)
-        };
-        let mut same = true;
-        for way in Way::OTHERS.into_iter().filter(differs) {
-            println!("history: DIFFERENT by {}", way.name());
-            same = false;
+    };
+    let rules = rules_at_reports(settings.rule, &script);
+    for ((ours, rust), rule) in ours.iter().zip(&rust).zip(rules) {
+        println!("report under {:?}", rule_of(rule));
+        print!("{}", table(ours, rust).aligned());
+        for cause in causes(ours, rust, settings.pre, rule_of(rule)) {
+            println!("cause: {}", cause.name());
         }
-        same
     }
+    observed.example().iter().for_each(|example| println!("{example}"));
+    let mut same = ours == rust && observed.counts.of("differ") == 0;
+    // the other ways lead from a new builder alone
+    let ways = WAYS[1..].iter().filter(|_| state.is_none());
+    for way in ways.filter(|way| run.ours_by(way, rust.len()).as_ref() != Ok(&rust)) {
+        println!("history: DIFFERENT by {}", way.0);
+        same = false;
+    }
+    println!("history: {} reports, {}", rust.len(), if same { "the same" } else { "DIFFERENT" });
+    Ok(same)
 }
 
 /// Whether the Rust's builder can take it.

@@ -3,32 +3,24 @@
 use std::process::ExitCode;
 use std::{env, io};
 
-use crate::history::Again;
-
-mod arguments;
 mod bench;
 mod builder;
 mod builders;
-mod counts;
-mod difference;
-mod elementary;
+mod call;
 mod environment;
 mod exports;
 mod files;
-mod function;
 mod hexadecimal;
 mod histories;
 mod history;
 mod lists;
-mod outcome;
+mod numbers;
 mod panics;
-mod phred;
 mod random;
-mod ranges;
-mod recorded;
 mod soak;
 mod table;
 mod tables;
+mod tally;
 mod umis;
 mod vectors;
 
@@ -93,17 +85,17 @@ impl Request {
         let words: Vec<&str> = self.words.iter().map(String::as_str).collect();
         let [arguments, histories, builders, sets, files, minutes, seed] = self.numbers;
         Ok(match words[..] {
-            ["elementary"] => elementary::run(arguments, seed),
-            ["phred"] => Ok(phred::run(arguments, seed)),
+            ["elementary"] => numbers::run_elementary(arguments, seed),
+            ["phred"] => Ok(numbers::run_phred(arguments, seed)),
             ["tables"] => Ok(tables::run()),
             ["histories"] => Ok(histories::run(histories, seed)),
             ["builders"] => Ok(builders::run(builders, seed)),
             ["umis"] => Ok(umis::run(sets, seed)),
             ["files"] => Ok(files::run(files, seed)),
             ["soak"] => soak::run(minutes, seed),
-            ["history", ref words @ ..] => Ok(Again::read(words)?.run()),
+            ["history", ref words @ ..] => Ok(history::run(words)?),
             ["vectors", file] => vectors::write(file.as_ref(), seed),
-            ["bench"] => Ok(bench::run(seed, self.markdown)),
+            ["bench"] => Ok(bench::run_all(seed, self.markdown)),
             _ => return Err("no such command".to_owned()),
         })
     }

@@ -3,7 +3,7 @@
 use std::any::Any;
 use std::panic::{AssertUnwindSafe, catch_unwind, resume_unwind, set_hook, take_hook};
 
-use crate::umis::condition::{LENGTHS_DIFFER, MIXED, NO_STRINGS, UNLIKE_FIRST};
+use crate::umis::set::{LENGTHS_DIFFER, MIXED, NO_STRINGS, UNLIKE_FIRST};
 
 /// The number of no condition: what `ln_a_minus_b` refuses.
 pub const OF_NUMBERS: u64 = 0;

@@ -24,12 +24,17 @@ impl Random {
         self.bits() % limit
     }
 
+    /// A place in a list of so many.
+    pub fn index(&mut self, many: usize) -> usize {
+        self.below(many as u64) as usize
+    }
+
     pub fn byte(&mut self) -> u8 {
         self.below(256) as u8
     }
 
     pub fn one_of<T: Copy>(&mut self, choices: &[T]) -> T {
-        choices[self.below(choices.len() as u64) as usize]
+        choices[self.index(choices.len())]
     }
 
     /// A number from `low` to `high`, both of them included.
@@ -47,7 +52,7 @@ impl Random {
     /// The same things in another order, each order as likely as any other.
     pub fn shuffled<T>(&mut self, mut things: Vec<T>) -> Vec<T> {
         for last in (1..things.len()).rev() {
-            things.swap(last, self.below(last as u64 + 1) as usize);
+            things.swap(last, self.index(last + 1));
         }
         things
     }

@@ -2,79 +2,46 @@
 
 use oracle::base_builder::accessors::{adjusted_tables, gap_tables};
 
-use crate::difference::stored_bits;
-use crate::exports::tables;
-use crate::table::Table;
+use crate::call::{is_refused, written};
+use crate::exports;
+use crate::numbers::stored_bits;
+use crate::tally::{Row, print_table};
 
 /// The tables in the order of `consensus_tables`, and how many entries each has.
 const TABLES: [(&str, usize); 5] =
     [("correct", 94), ("error_per_alt", 94), ("thresholds", 94), ("cerr_min", 94), ("cap", 1)];
 
 /// How many bytes the numbers of all tables are.
-const BYTES: usize = 3016;
-
-/// Bytes behind the tables, which must stay as they are.
-const BEHIND: [u8; 8] = *b"unchange";
+pub const BYTES: usize = 3016;
 
 /// Compares each rate's tables once, and says whether no entry differs.
 pub fn run() -> bool {
-    let mut differing = [0_u64; TABLES.len()];
+    let mut rows = TABLES.map(|(name, _)| Row::new(name));
     for pre in 0..=u8::MAX {
         // each rate once on either side, and never the same on both
         let post = !pre;
-        compare(&ours(pre, post), &rust(pre, post), &mut differing);
+        let ours = written(BYTES, |out| exports::tables(pre, post, out));
+        let ours = ours.expect("the tables are written");
+        let mut numbers = ours.chunks_exact(8).zip(rust(pre, post));
+        for (row, (_, entries)) in rows.iter_mut().zip(TABLES) {
+            row.counts.add("entries at all rates", entries as u64);
+            let differing = numbers.by_ref().take(entries).filter(|(ours, rust)| ours != rust);
+            row.counts.add("differ", differing.count() as u64);
+        }
     }
-    let short = short_is_unchanged();
-    print(differing);
-    println!(
-        "tables: a buffer of {} bytes {}",
-        BYTES - 1,
-        if short { "unchanged" } else { "CHANGED" }
-    );
-    differing == [0; TABLES.len()] && short
+    print_table("table | entries at all rates | differ", &rows);
+    let all = Row::sum(&rows).counts;
+    all.tell("tables: {differ} entries differ");
+    let short = is_refused(BYTES - 1, |out| exports::tables(45, 40, out));
+    let unchanged = if short { "unchanged" } else { "CHANGED" };
+    println!("tables: a buffer of {} bytes {unchanged}", BYTES - 1);
+    all.of("differ") == 0 && short
 }
 
-fn compare(ours: &[u64], rust: &[u64], differing: &mut [u64; TABLES.len()]) {
-    assert_eq!(ours.len(), rust.len(), "as many numbers on both sides");
-    let mut numbers = ours.iter().zip(rust);
-    for (table, (_, entries)) in TABLES.into_iter().enumerate() {
-        let differs = numbers.by_ref().take(entries).filter(|(ours, rust)| ours != rust).count();
-        differing[table] += differs as u64;
-    }
-}
-
-/// The numbers that the proved library gives for a pair of rates.
-fn ours(pre: u8, post: u8) -> Vec<u64> {
-    let mut bytes = [&[0; BYTES][..], &BEHIND].concat();
-    assert_eq!(tables(pre, post, &mut bytes), BYTES as u64, "so many bytes are written");
-    assert_eq!(bytes[BYTES..], BEHIND, "and none behind them");
-    let number = |bytes: &[u8]| u64::from_le_bytes(bytes.try_into().expect("eight bytes"));
-    bytes[..BYTES].chunks(8).map(number).collect()
-}
-
-/// The Rust's, in the same order.
-fn rust(pre: u8, post: u8) -> Vec<u64> {
+/// The Rust's numbers, in the same order.
+fn rust(pre: u8, post: u8) -> Vec<[u8; 8]> {
     let (correct, error_per_alt) = adjusted_tables(post);
     let (thresholds, cerr_min, cap) = gap_tables(pre);
-    let entries = [&correct, &error_per_alt, &thresholds, &cerr_min];
-    let mut numbers: Vec<u64> =
-        entries.into_iter().flat_map(|table| table.iter().copied().map(stored_bits)).collect();
-    numbers.push(cap as u64);
-    numbers
-}
-
-/// Whether a buffer that is a byte too short is left as it is.
-fn short_is_unchanged() -> bool {
-    let before: Vec<u8> = (0..BYTES - 1).map(|place| place as u8).collect();
-    let mut bytes = before.clone();
-    tables(45, 40, &mut bytes) == 0 && bytes == before
-}
-
-fn print(differing: [u64; TABLES.len()]) {
-    let mut table = Table::new("table | entries at all rates | differ", 1..3);
-    for ((name, entries), differ) in TABLES.into_iter().zip(differing) {
-        table.row(vec![name.to_owned(), (entries * 256).to_string(), differ.to_string()]);
-    }
-    print!("{}", table.aligned());
-    println!("tables: {} entries differ", differing.iter().sum::<u64>());
+    let entries = [correct, error_per_alt, thresholds, cerr_min].into_iter().flatten();
+    entries.map(stored_bits).chain([cap as u64]).map(u64::to_le_bytes).collect()
 }

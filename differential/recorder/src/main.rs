@@ -1,5 +1,6 @@
 //! Builds the tables of all 256 rates by the Rust and writes each call that this makes of the C
-//! library's exp, log, log1p and expm1 to standard output, in the form of `Call`.
+//! library's exp, log, log1p and expm1 to standard output: its letter, argument and answer, as three
+//! numbers of 8 bytes with the low byte first, the last two as bit patterns.
 //!
 //! The linker's `--wrap=exp` (see `build.rs`) makes every call of `exp` one of `__wrap_exp`, and
 //! gives the C library's own the name `__real_exp`. So the source is compiled as it stands.
@@ -9,15 +10,14 @@ use std::io::{self, BufWriter, Stdout, Write};
 use std::sync::{LazyLock, Mutex};
 
 use oracle::base_builder::accessors::{adjusted_tables, gap_tables};
-use recorder::Call;
 
 static OUTPUT: LazyLock<Mutex<BufWriter<Stdout>>> =
     LazyLock::new(|| Mutex::new(BufWriter::with_capacity(1 << 16, io::stdout())));
 
 fn record(letter: u8, argument: f64, answer: f64) -> f64 {
-    let call = Call { letter, argument: argument.to_bits(), answer: answer.to_bits() };
+    let call = [u64::from(letter), argument.to_bits(), answer.to_bits()].map(u64::to_le_bytes);
     let mut output = OUTPUT.lock().expect("no other thread");
-    output.write_all(&call.to_bytes()).expect("standard output takes the calls");
+    output.write_all(call.as_flattened()).expect("standard output takes the calls");
     answer
 }
 

@@ -60,9 +60,9 @@ pub fn causes(ours: &Report, rust: &Report, pre: u8, rule: TieRule) -> Vec<Cause
         return vec![Cause::Unknown];
     }
     let barred = SOURCE_BARRED.answers(&at);
-    let differs = |field: &Field| ours.field(*field) != rust.field(*field);
-    let fields = [Field::Unanimous, Field::Multibase, Field::CallFull];
-    fields.into_iter().filter(differs).map(|field| cause(field, &source, &barred, &at)).collect()
+    let answers = [Field::Unanimous, Field::Multibase, Field::CallFull];
+    let differing = ours.differing(rust).filter(|field| answers.contains(field));
+    differing.map(|field| cause(field, &source, &barred, &at)).collect()
 }
 
 /// Whether a report is that of the Rust's state with these answers.

@@ -14,7 +14,7 @@ use oracle::phred::{MIN_PHRED, NO_CALL_BASE, ln_prob_to_phred, phred_to_ln_error
 use super::BASES;
 use super::report::{Answers, Call};
 use super::ties::{has_tie, unique_maximum};
-use crate::phred::formula::{C_LIBRARY, Elementary, OURS};
+use crate::numbers::formula::{C_LIBRARY, Elementary, OURS};
 
 /// 16 units of rounding: how far apart two ways of summing up may come, for each unit of magnitude.
 const MARGIN: f64 = 16.0 * (f64::EPSILON / 2.0);

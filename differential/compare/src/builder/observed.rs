@@ -6,62 +6,41 @@ use oracle::base_builder::ConsensusBaseBuilder;
 use super::Settings;
 use super::report::Report;
 use super::script::REPORT;
-use super::sides::{Run, written};
+use super::sides::Run;
+use crate::call::written;
 use crate::exports;
+use crate::tally::Row;
 
-/// How many numbers these are: one, one of each byte, one of each lane.
-const NUMBERS: usize = 1 + 256 + 4;
+/// How many bytes the answer is: a number of four bytes, one of each byte, one of each lane.
+pub const BYTES: usize = 4 * (1 + 256 + 4);
 
-/// How many bytes a number is, with the low byte first.
-const NUMBER_BYTES: usize = 4;
-
-/// How many bytes the answer is.
-pub const BYTES: usize = NUMBERS * NUMBER_BYTES;
-
-/// What came out of comparing builders at many reports.
-#[derive(Default)]
-pub struct Observed {
-    reports: u64,
-    pub differing: u64,
-    /// Reports of builders that have counted a base.
-    counted: u64,
-    /// The first difference.
-    pub example: Option<String>,
+/// Compares a builder of the Rust, of some settings, with ours of the state that it reports.
+pub fn compare(builder: &ConsensusBaseBuilder, report: &Report, settings: Settings, row: &mut Row) {
+    row.counts.one("reports");
+    row.counts.add("counted", report.counts() != [0; 4]);
+    let state = report.state();
+    let rust = rust(builder);
+    let problem = match written(BYTES, |out| exports::observations(&state, out)) {
+        Ok(ours) if ours == rust => return,
+        Ok(ours) => difference(&ours, &rust),
+        Err(problem) => problem,
+    };
+    // the state alone is enough to see it again
+    let run = Run { settings, state: Some(&state), script: &[REPORT, 0, 0] };
+    row.differs(0, || format!("observations: {problem}: {run}"));
 }
 
-impl Observed {
-    /// Compares a builder of the Rust, of some settings, with ours of the state that it reports.
-    pub fn compare(&mut self, builder: &ConsensusBaseBuilder, report: &Report, settings: Settings) {
-        self.reports += 1;
-        self.counted += u64::from(report.counts() != [0; 4]);
-        let state = report.state();
-        let rust = rust(builder);
-        let ours = written(BYTES, |out| exports::observations(&state, out));
-        let problem = match ours {
-            Ok(ours) if ours == rust => return,
-            Ok(ours) => difference(&ours, &rust),
-            Err(problem) => problem,
-        };
-        self.differing += 1;
-        self.example.get_or_insert_with(|| {
-            // the state alone is enough to see it again
-            let run = Run { settings, state: Some(&state), script: &[REPORT, 0, 0] };
-            format!("observations: {problem}: {run}")
-        });
-    }
+pub fn holds(row: &Row) -> bool {
+    row.counts.of("counted") > 0 && row.counts.of("differ") == 0
+}
 
-    pub fn holds(&self) -> bool {
-        self.counted > 0 && self.differing == 0
-    }
-
-    /// Prints what came out, as a line of a command.
-    pub fn print(&self, command: &str) {
-        println!(
-            "{command}: contributions, observations_for_base of all 256 bytes and all_observations \
-             at {} reports, {} of builders that have counted; {} differ",
-            self.reports, self.counted, self.differing
-        );
-    }
+/// Prints what came out, as a line of a command.
+pub fn print(command: &str, row: &Row) {
+    print!("{command}: contributions, observations_for_base of all 256 bytes and ");
+    row.counts.tell(
+        "all_observations at {reports} reports, {counted} of builders that have counted; {differ} \
+         differ",
+    );
 }
 
 /// The Rust's answer, as bytes.
@@ -76,17 +55,15 @@ fn rust(builder: &ConsensusBaseBuilder) -> Vec<u8> {
 
 /// The first number in which two answers differ.
 fn difference(ours: &[u8], rust: &[u8]) -> String {
-    let numbers = |bytes: &[u8]| -> Vec<u32> {
-        let number = |bytes: &[u8]| u32::from_le_bytes(bytes.try_into().expect("four bytes"));
-        bytes.chunks_exact(NUMBER_BYTES).map(number).collect()
-    };
-    let (ours, rust) = (numbers(ours), numbers(rust));
-    let place = (0..NUMBERS).find(|place| ours[*place] != rust[*place]);
-    let place = place.expect("the answers differ");
+    let mut both = ours.chunks_exact(4).zip(rust.chunks_exact(4)).enumerate();
+    let first = both.find(|(_, (ours, rust))| ours != rust);
+    let (place, (ours, rust)) = first.expect("the answers differ");
     let name = match place {
         0 => "contributions".to_owned(),
         1..=256 => format!("observations_for_base of {}", place - 1),
         _ => format!("all_observations, lane {}", place - 257),
     };
-    format!("{name}, ours {}, the Rust's {}", ours[place], rust[place])
+    let [ours, rust] =
+        [ours, rust].map(|bytes| u32::from_le_bytes(bytes.try_into().expect("four bytes")));
+    format!("{name}, ours {ours}, the Rust's {rust}")
 }

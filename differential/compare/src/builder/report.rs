@@ -1,14 +1,12 @@
 //! A report: what a builder holds and what it answers, as bytes.
 
-use std::ops::Range;
-
 use oracle::base_builder::ConsensusBaseBuilder;
 use oracle::base_builder::accessors::{
     State, call_full, state, try_multibase_fast_path, try_unanimous_fast_path,
 };
 
 use super::BASES;
-use crate::difference::stored_bits;
+use crate::numbers::stored_bits;
 
 /// How many bytes a report has.
 pub const BYTES: usize = 91;
@@ -16,54 +14,39 @@ pub const BYTES: usize = 91;
 /// The first bytes of it, which are the builder's state.
 pub const STATE_BYTES: usize = 80;
 
+/// A builder's state as bytes.
+pub type StateBytes = [u8; STATE_BYTES];
+
 /// A base and its quality.
 pub type Call = (u8, u8);
 
-/// What a report says, in its order.
-#[derive(Clone, Copy, PartialEq, Eq)]
-pub enum Field {
-    Likelihoods,
-    Compensations,
-    Counts,
-    Unanimous,
-    Multibase,
-    CallFull,
-    Call,
-    Refused,
+/// What a report says, in its order: the names, and where each starts.
+macro_rules! fields {
+    ($($field:ident $name:literal $start:literal)*) => {
+        #[derive(Clone, Copy, PartialEq, Eq)]
+        pub enum Field { $($field),* }
+
+        impl Field {
+            pub const ALL: [Self; 8] = [$(Self::$field),*];
+
+            pub fn name(self) -> &'static str {
+                [$($name),*][self as usize]
+            }
+        }
+
+        const STARTS: [usize; 9] = [$($start,)* BYTES];
+    };
 }
 
-impl Field {
-    pub const ALL: [Self; 8] = [
-        Self::Likelihoods,
-        Self::Compensations,
-        Self::Counts,
-        Self::Unanimous,
-        Self::Multibase,
-        Self::CallFull,
-        Self::Call,
-        Self::Refused,
-    ];
-
-    pub fn name(self) -> &'static str {
-        self.name_and_bytes().0
-    }
-
-    fn bytes(self) -> Range<usize> {
-        self.name_and_bytes().1
-    }
-
-    fn name_and_bytes(self) -> (&'static str, Range<usize>) {
-        match self {
-            Self::Likelihoods => ("likelihoods", 0..32),
-            Self::Compensations => ("compensations", 32..64),
-            Self::Counts => ("counts", 64..80),
-            Self::Unanimous => ("unanimous shortcut", 80..83),
-            Self::Multibase => ("multibase shortcut", 83..86),
-            Self::CallFull => ("call_full", 86..88),
-            Self::Call => ("call", 88..90),
-            Self::Refused => ("events refused", 90..91),
-        }
-    }
+fields! {
+    Likelihoods "likelihoods" 0
+    Compensations "compensations" 32
+    Counts "counts" 64
+    Unanimous "unanimous shortcut" 80
+    Multibase "multibase shortcut" 83
+    CallFull "call_full" 86
+    Call "call" 88
+    Refused "events refused" 90
 }
 
 /// What a builder answers: both shortcuts, the long calculation, and the call.
@@ -95,18 +78,13 @@ impl Report {
         Self::new(state_bytes(&state(builder), stored_bits), answers, refused)
     }
 
-    pub fn new(state: [u8; STATE_BYTES], answers: Answers, refused: u8) -> Self {
+    pub fn new(state: StateBytes, answers: Answers, refused: u8) -> Self {
+        let Answers { unanimous, multibase, full, call } = answers;
         let mut bytes = [0; BYTES];
         bytes[..STATE_BYTES].copy_from_slice(&state);
-        bytes[80..83].copy_from_slice(&reply_bytes(answers.unanimous));
-        bytes[83..86].copy_from_slice(&reply_bytes(answers.multibase));
-        bytes[86..90].copy_from_slice(&[
-            answers.full.0,
-            answers.full.1,
-            answers.call.0,
-            answers.call.1,
-        ]);
-        bytes[90] = refused;
+        bytes[80..83].copy_from_slice(&reply_bytes(unanimous));
+        bytes[83..86].copy_from_slice(&reply_bytes(multibase));
+        bytes[86..].copy_from_slice(&[full.0, full.1, call.0, call.1, refused]);
         Self(bytes)
     }
 
@@ -115,10 +93,10 @@ impl Report {
     }
 
     pub fn field(&self, field: Field) -> &[u8] {
-        &self.0[field.bytes()]
+        &self.0[STARTS[field as usize]..STARTS[field as usize + 1]]
     }
 
-    pub fn state(&self) -> [u8; STATE_BYTES] {
+    pub fn state(&self) -> StateBytes {
         self.0[..STATE_BYTES].try_into().expect("80 of 91 bytes")
     }
 
@@ -140,6 +118,11 @@ impl Report {
 
     pub fn refused(&self) -> u8 {
         self.0[90]
+    }
+
+    /// The fields in which another one differs.
+    pub fn differing(&self, other: &Self) -> impl Iterator<Item = Field> {
+        Field::ALL.into_iter().filter(|field| self.field(*field) != other.field(*field))
     }
 
     /// A field as text.
@@ -164,12 +147,11 @@ impl Report {
 
 /// The fields in which two reports differ, as text.
 pub fn difference(ours: &Report, rust: &Report) -> String {
-    let differs = |field: &Field| ours.field(*field) != rust.field(*field);
     let words = |field: Field| {
         let (ours, rust) = (ours.words(field), rust.words(field));
         format!("{}, ours {ours}, the Rust's {rust}", field.name())
     };
-    Field::ALL.into_iter().filter(differs).map(words).collect::<Vec<String>>().join("; ")
+    ours.differing(rust).map(words).collect::<Vec<String>>().join("; ")
 }
 
 /// A base that is one as its letter, and any other byte as a number.
@@ -187,7 +169,7 @@ fn reply_bytes(reply: Option<Call>) -> [u8; 3] {
 
 /// A state as bytes, all with the low byte first, and numbers by their bit patterns: their own, or
 /// in a report the same one for every NaN.
-pub fn state_bytes(state: &State, pattern: fn(f64) -> u64) -> [u8; STATE_BYTES] {
+pub fn state_bytes(state: &State, pattern: fn(f64) -> u64) -> StateBytes {
     let mut bytes = [0; STATE_BYTES];
     let (numbers, counts) = bytes.split_at_mut(64);
     let values = state.likelihoods.iter().chain(&state.compensations);
@@ -201,7 +183,7 @@ pub fn state_bytes(state: &State, pattern: fn(f64) -> u64) -> [u8; STATE_BYTES] 
 }
 
 /// The state that these bytes are.
-pub fn state_of(bytes: &[u8; STATE_BYTES]) -> State {
+pub fn state_of(bytes: &StateBytes) -> State {
     let count = |lane: usize| u32::from_le_bytes(std::array::from_fn(|i| bytes[64 + 4 * lane + i]));
     State {
         likelihoods: numbers(&bytes[..32]),

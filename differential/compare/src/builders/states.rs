@@ -6,35 +6,26 @@ use oracle::base_builder::accessors::{State, state};
 use crate::builder::Settings;
 use crate::builder::draws::observation;
 use crate::builder::formula::Gaps;
+use crate::numbers::ranges::Draw;
 use crate::random::Random;
-use crate::ranges::Draw;
 
-/// A way to draw a state for a builder of some settings.
-pub struct Kind {
-    pub name: &'static str,
-    pub draw: fn(Settings, &mut Random) -> State,
-}
-
-const fn kind(name: &'static str, draw: fn(Settings, &mut Random) -> State) -> Kind {
-    Kind { name, draw }
-}
-
-pub static KINDS: [Kind; 13] = [
-    kind("after observations, or a few units off", observed),
-    kind("[-60, 0]", |_, random| of_each(|random| random.between(-60.0, 0.0), random)),
-    kind("[-60, 0], some equal", |_, random| with_lanes(some_equal(random), random)),
-    kind("few units apart, of any size", |_, random| with_lanes(units_apart(random), random)),
-    kind("few 2^-54 apart, beside 0", |_, random| with_lanes(small_and_close(random), random)),
-    kind("one winner, equal losers", |_, random| with_lanes(one_winner(random), random)),
-    kind("beside a level's threshold", |settings, random| {
+/// Ways to draw a state for a builder of some settings, by name.
+pub static KINDS: [(&str, fn(Settings, &mut Random) -> State); 13] = [
+    ("after observations, or a few units off", observed),
+    ("[-60, 0]", |_, random| of_each(|random| random.between(-60.0, 0.0), random)),
+    ("[-60, 0], some equal", |_, random| with_lanes(some_equal(random), random)),
+    ("few units apart, of any size", |_, random| with_lanes(units_apart(random), random)),
+    ("few 2^-54 apart, beside 0", |_, random| with_lanes(small_and_close(random), random)),
+    ("one winner, equal losers", |_, random| with_lanes(one_winner(random), random)),
+    ("beside a level's threshold", |settings, random| {
         with_lanes(beside_threshold(Gaps::of(settings.pre), random), random)
     }),
-    kind("another lane beside the winner", |_, random| with_lanes(near_winner(random), random)),
-    kind("another lane above the winner", |_, random| with_lanes(below_another(random), random)),
-    kind("infinite and NaN among them", |_, random| with_lanes(some_special(random), random)),
-    kind("special values", |_, random| of_each(|random| random.one_of(&SPECIAL), random)),
-    kind("any exponent", |_, random| of_each(|random| ANY_EXPONENT.next(random), random)),
-    kind("any bit pattern", |_, random| of_each(|random| Draw::AnyBits.next(random), random)),
+    ("another lane beside the winner", |_, random| with_lanes(near_winner(random), random)),
+    ("another lane above the winner", |_, random| with_lanes(below_another(random), random)),
+    ("infinite and NaN among them", |_, random| with_lanes(some_special(random), random)),
+    ("special values", |_, random| of_each(|random| random.one_of(&SPECIAL), random)),
+    ("any exponent", |_, random| of_each(|random| ANY_EXPONENT.next(random), random)),
+    ("any bit pattern", |_, random| of_each(|random| Draw::AnyBits.next(random), random)),
 ];
 
 const ANY_EXPONENT: Draw = Draw::EitherSign(f64::from_bits(1), f64::MAX);
@@ -90,7 +81,7 @@ pub fn chosen() -> Vec<State> {
 /// A state with these lanes: the winner's, the one after it, in which the Rust's unanimous shortcut
 /// looks for the loser, and the two others. Any base may be the winner.
 fn with_lanes(mut likelihoods: [f64; 4], random: &mut Random) -> State {
-    let winner = random.below(4) as usize;
+    let winner = random.index(4);
     likelihoods.rotate_right(winner);
     State {
         likelihoods,
@@ -112,7 +103,7 @@ fn observed(settings: Settings, random: &mut Random) -> State {
     }
     let mut state = state(&builder);
     if random.below(2) == 0 {
-        let lane = random.below(4) as usize;
+        let lane = random.index(4);
         state.likelihoods[lane] = units_off(state.likelihoods[lane], random);
     }
     state
@@ -162,7 +153,7 @@ fn gap(random: &mut Random) -> f64 {
 /// Where a quality goes over into the next one, and beside that by about the shortcut's margin.
 fn beside_threshold(gaps: &Gaps, random: &mut Random) -> [f64; 4] {
     let winner = if random.below(4) == 0 { -0.0 } else { sum(random) };
-    let level = random.below(gaps.cap as u64 + 1) as usize;
+    let level = random.index(gaps.cap + 1);
     let mut gap = gaps.thresholds[level];
     if level == gaps.cap && random.below(2) == 0 {
         gap += std::f64::consts::LN_2;

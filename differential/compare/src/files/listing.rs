@@ -1,74 +1,62 @@
-//! What is to be printed for a file, from the Rust's own answers.
+//! What is to be listed of a file, from the Rust's own answers, and the functions that list it.
 
 use std::io::Write;
 
 use oracle::base_builder::ConsensusBaseBuilder;
 
-use super::reader::{File, read};
-use crate::builder::report::Call;
+use super::file::{File, read};
+use crate::builder::cause::{Cause, causes};
+use crate::builder::formula::{Gaps, PORT, Position};
+use crate::builder::report::{self, Report};
 use crate::builder::rule_of;
-use crate::umis::found::Found as FoundSet;
-use crate::umis::function::{DEFAULTS, Function};
-use crate::umis::rust::Given;
+use crate::call::Answer;
+use crate::exports;
+use crate::umis::rust::{Given, found};
+use crate::umis::set::{DEFAULTS, Function as UmiFunction, TOO_SHORT};
 
-/// What is to be found for a file.
-pub enum Found<'a> {
-    /// By the number of a condition.
-    Refused(u64),
-    Listed(Listed<'a>),
+/// What is said of a column: its call, its depth, and how often each base was counted.
+#[derive(Clone, Copy)]
+pub struct Line {
+    pub call: report::Call,
+    pub depth: usize,
+    pub counts: [u32; 4],
 }
 
-/// A file that meets no condition, and the consensus of its strings.
+/// A file that meets no condition, its columns, and the consensus of its strings.
+#[derive(Clone)]
 pub struct Listed<'a> {
     pub file: File<'a>,
+    pub lines: Vec<Line>,
     pub umi: Given,
 }
 
-impl<'a> Found<'a> {
-    /// By the conditions and the Rust; what is wrong where the Rust does not panic for the condition
-    /// that the strings meet, or panics for none.
-    pub fn of(bytes: &'a [u8]) -> Result<Self, String> {
-        let file = match read(bytes) {
-            Ok(file) => file,
-            Err(number) => return Ok(Self::Refused(number)),
-        };
-        Ok(match FoundSet::of(Function::Consensus, DEFAULTS, file.set)? {
-            FoundSet::Number(number) => Self::Refused(number),
-            FoundSet::Given(umi) => Self::Listed(Listed { file, umi }),
-        })
-    }
+/// What is to be found for a file: it is listed, or refused by the number of a condition.
+pub type Found<'a> = Result<Listed<'a>, u64>;
 
-    /// The number of the condition, 0 where there is none.
-    pub fn number(&self) -> u64 {
-        match self {
-            Self::Refused(number) => *number,
-            Self::Listed(_) => 0,
-        }
-    }
-
-    /// The whole text.
-    pub fn text(&self) -> Vec<u8> {
-        match self {
-            Self::Refused(number) => format!("refused {number}\n").into_bytes(),
-            Self::Listed(listed) => listed.text(ConsensusBaseBuilder::call),
-        }
-    }
+/// By the conditions and the Rust; what is wrong where the Rust does not panic for the condition that
+/// the strings meet, or panics for none.
+pub fn found_in(bytes: &[u8]) -> Result<Found<'_>, String> {
+    let file = match read(bytes) {
+        Ok(file) => file,
+        Err(number) => return Ok(Err(number)),
+    };
+    Ok(found(UmiFunction::Consensus, DEFAULTS, file.set)?.map(|umi| {
+        let lines = lines(&file, ConsensusBaseBuilder::call).collect();
+        Listed { file, lines, umi }
+    }))
 }
 
-impl Listed<'_> {
-    /// The text with the calls of each column as they are asked for here.
-    pub fn text(&self, call: impl FnMut(&ConsensusBaseBuilder) -> Call) -> Vec<u8> {
-        let mut text = Vec::new();
-        write_columns(&self.file, call, &mut text);
-        write_umi(&self.umi.string, self.umi.flags[0], &mut text);
-        text
-    }
-}
-
-/// A builder of a file's settings.
-pub fn builder_of(file: &File) -> ConsensusBaseBuilder {
-    let settings = file.settings;
-    ConsensusBaseBuilder::new(settings.pre, settings.post).with_tie_rule(rule_of(settings.rule))
+/// A line of each column, by one builder that is reset for each, with the calls as they are asked for.
+pub fn lines(
+    file: &File,
+    mut call: impl FnMut(&ConsensusBaseBuilder) -> report::Call,
+) -> impl Iterator<Item = Line> {
+    let mut builder = file.settings.rust_builder();
+    file.columns.iter().map(move |column| {
+        observe(column, &mut builder);
+        let counts = builder.all_observations();
+        Line { call: call(&builder), depth: column.len() / 2, counts }
+    })
 }
 
 /// The builder after a column alone.
@@ -79,27 +67,112 @@ pub fn observe(column: &[u8], builder: &mut ConsensusBaseBuilder) {
     }
 }
 
-/// The head, and a line for each column.
-pub fn write_columns(
-    file: &File,
-    mut call: impl FnMut(&ConsensusBaseBuilder) -> Call,
-    text: &mut Vec<u8>,
-) {
-    let mut builder = builder_of(file);
+/// The head, a line for each column, and the last one. The string's bytes go out as they are, so that
+/// it may be no text.
+pub fn write(lines: impl Iterator<Item = Line>, string: &[u8], flag: bool, text: &mut Vec<u8>) {
     text.extend(b"column base quality depth A C G T\n");
-    for (place, column) in file.columns.iter().enumerate() {
-        observe(column, &mut builder);
-        let (number, depth) = (place + 1, column.len() / 2);
-        let (base, quality) = call(&builder);
-        let [a, c, g, t] = builder.all_observations();
-        writeln!(text, "{number} {} {quality} {depth} {a} {c} {g} {t}", base as char)
+    for (place, Line { call: (base, quality), depth, counts: [a, c, g, t] }) in lines.enumerate() {
+        writeln!(text, "{} {} {quality} {depth} {a} {c} {g} {t}", place + 1, base as char)
             .expect("memory takes what is written");
     }
-}
-
-/// The last line. The string's bytes go out as they are, so that it may be no text.
-pub fn write_umi(string: &[u8], flag: bool, text: &mut Vec<u8>) {
     text.extend(b"umi ");
     text.extend(string);
     writeln!(text, " {flag}").expect("memory takes what is written");
+}
+
+fn text(Listed { lines, umi, .. }: &Listed) -> Vec<u8> {
+    let mut text = Vec::new();
+    write(lines.iter().copied(), &umi.string, umi.flags[0], &mut text);
+    text
+}
+
+/// 28 bytes for each column: its line without the number, and how many observations were not counted.
+fn records(listed: &Listed) -> Vec<u8> {
+    let record = |Line { call: (base, quality), depth, counts }: &Line| {
+        let depth = *depth as u32;
+        let ignored = depth - counts.iter().sum::<u32>();
+        let numbers = [&[depth][..], counts, &[ignored]].concat();
+        let numbers = numbers.into_iter().flat_map(u32::to_le_bytes);
+        [*base, *quality, 0, 0].into_iter().chain(numbers).collect::<Vec<u8>>()
+    };
+    listed.lines.iter().flat_map(record).collect()
+}
+
+impl Listed<'_> {
+    /// Its columns called anew on the Rust's lanes, over our elementary functions and with document
+    /// 01's conditions of the shortcuts, and why they are not the Rust's calls, each cause once. None
+    /// where that makes no difference, or where the formulas over the C library's and without these
+    /// conditions do not give the Rust's calls.
+    pub fn explained(&self) -> Option<(Self, Vec<Cause>)> {
+        let (pre, rule) = (self.file.settings.pre, rule_of(self.file.settings.rule));
+        let mut all: Vec<Cause> = Vec::new();
+        let call = |builder: &ConsensusBaseBuilder| {
+            let rust = Report::of(builder, 0);
+            let (lanes, counts) = (rust.likelihoods(), rust.counts());
+            let answers = PORT.answers(&Position { lanes, counts, rule, gaps: Gaps::of(pre) });
+            if answers.call != builder.call() {
+                let port = Report::new(rust.state(), answers, rust.refused());
+                for cause in causes(&port, &rust, pre, rule) {
+                    if !all.contains(&cause) {
+                        all.push(cause);
+                    }
+                }
+            }
+            answers.call
+        };
+        let lines = lines(&self.file, call).collect();
+        let known = !all.is_empty() && !all.contains(&Cause::Unknown);
+        known.then(|| (Self { lines, ..self.clone() }, all))
+    }
+}
+
+/// A function that lists a file.
+pub struct Function {
+    pub name: &'static str,
+    pub ours: fn(&[u8], &mut [u8]) -> u64,
+    /// What it writes of a file that is listed.
+    bytes: fn(&Listed) -> Vec<u8>,
+    /// Whether a refusal, and 10 for too short a buffer, is the reply, and 256 and the length that of
+    /// a file that is listed. Else a refusal is written, too, and the reply is the length.
+    pub by_number: bool,
+    /// The counts of its calls, of those that are refused, of too short buffers and of the others.
+    pub counts: [&'static str; 4],
+}
+
+macro_rules! functions {
+    ($($name:ident $bytes:ident $by_number:literal)*) => {
+        [$(Function {
+            name: concat!("consensus_", stringify!($name)),
+            ours: exports::$name,
+            bytes: $bytes,
+            by_number: $by_number,
+            counts: [
+                stringify!($name),
+                concat!(stringify!($name), ", refused"),
+                concat!(stringify!($name), ", too short"),
+                concat!(stringify!($name), ", written"),
+            ],
+        }),*]
+    };
+}
+
+/// One more is compared by its line here.
+pub static FUNCTIONS: [Function; 3] = functions! {
+    list text false
+    listing text true
+    records records true
+};
+
+impl Function {
+    pub fn answer(&self, found: &Found) -> Answer {
+        match found {
+            Err(number) if self.by_number => Answer::number(*number),
+            Err(number) => Answer::length_of(format!("refused {number}\n").into_bytes()),
+            Ok(listed) => {
+                let answer = Answer::length_of((self.bytes)(listed));
+                let (more, too_short) = if self.by_number { (256, TOO_SHORT) } else { (0, 0) };
+                Answer { reply: answer.reply + more, too_short, ..answer }
+            }
+        }
+    }
 }

@@ -119,7 +119,7 @@ enum Spread {
 /// Two, three or four bases, as many of each.
 fn even_split(spread: Spread, random: &mut Random) -> Column {
     let bases = random.shuffled(BASES.to_vec());
-    let many = 2 + random.below(3) as usize;
+    let many = 2 + random.index(3);
     let each = depth(random).div_ceil(many as u64);
     let drawn = Qualities::drawn(random);
     let qualities = match spread {
@@ -137,7 +137,7 @@ fn even_split(spread: Spread, random: &mut Random) -> Column {
 
 /// Has one quality be the next one up or down.
 fn one_off(column: &mut Column, random: &mut Random) {
-    let place = random.below(column.len() as u64) as usize;
+    let place = random.index(column.len());
     let quality = &mut column[place].1;
     *quality = if random.below(2) == 0 { quality.wrapping_add(1) } else { quality.wrapping_sub(1) };
 }
@@ -160,7 +160,7 @@ fn any_bytes(random: &mut Random) -> Column {
 fn disguised(mut column: Column, random: &mut Random) -> Column {
     if random.below(4) == 0 {
         for _ in 0..1 + random.below(3) {
-            let place = random.below(column.len() as u64 + 1) as usize;
+            let place = random.index(column.len() + 1);
             column.insert(place, (ignored(random), random.byte()));
         }
     }

@@ -32,37 +32,27 @@ fn size(random: &mut Random) -> usize {
 }
 
 pub fn small_shape(random: &mut Random) -> Shape {
-    Shape { strings: random.below(7) as usize, length: random.below(10) as usize }
+    Shape { strings: random.index(7), length: random.index(10) }
 }
 
-/// A way to draw a set of about a shape.
-pub struct Kind {
-    pub name: &'static str,
-    pub draw: fn(Shape, &mut Random) -> Strings,
-}
-
-const fn kind(name: &'static str, draw: fn(Shape, &mut Random) -> Strings) -> Kind {
-    Kind { name, draw }
-}
-
-/// Two strands are made of the other kinds.
-pub static KINDS: [Kind; 10] = [
-    kind("errors of 0 to 50 percent", with_errors),
-    kind("errors, N and lower case", disguised),
-    kind("two halves", |shape, random| parts(2, shape, random)),
-    kind("three or four parts", |shape, random| parts(3 + random.below(2) as usize, shape, random)),
-    kind("columns that are not DNA", with_other_columns),
-    kind("faulty columns", faulty),
-    kind("a byte of 128 or more", with_high_bytes),
-    kind("unequal lengths", unequal),
-    kind("any bytes", any_bytes),
-    kind("two strands", two_strands),
+/// Ways to draw a set of about a shape, by name. Two strands are made of the other kinds.
+pub static KINDS: [(&str, fn(Shape, &mut Random) -> Strings); 10] = [
+    ("errors of 0 to 50 percent", with_errors),
+    ("errors, N and lower case", disguised),
+    ("two halves", |shape, random| parts(2, shape, random)),
+    ("three or four parts", |shape, random| parts(3 + random.index(2), shape, random)),
+    ("columns that are not DNA", with_other_columns),
+    ("faulty columns", faulty),
+    ("a byte of 128 or more", with_high_bytes),
+    ("unequal lengths", unequal),
+    ("any bytes", any_bytes),
+    ("two strands", two_strands),
 ];
 
 /// A set of any kind.
 pub fn any_kind(shape: Shape, random: &mut Random) -> Strings {
-    let kind = random.below(KINDS.len() as u64) as usize;
-    (KINDS[kind].draw)(shape, random)
+    let kind = random.index(KINDS.len());
+    KINDS[kind].1(shape, random)
 }
 
 /// Bytes that are no DNA. A slip would take some of them for a base.
@@ -81,7 +71,7 @@ fn bases(length: usize, random: &mut Random) -> Vec<u8> {
 /// One of the other three bases.
 fn another_base(base: u8, random: &mut Random) -> u8 {
     let lane = lane_of(base).expect("a base");
-    BASES[(lane + 1 + random.below(3) as usize) % BASES.len()]
+    BASES[(lane + 1 + random.index(3)) % BASES.len()]
 }
 
 /// Copies of one string, in which so many of 100 bytes are another base.
@@ -158,7 +148,7 @@ fn with_high_bytes(shape: Shape, random: &mut Random) -> Strings {
         put(high_byte(random), &mut strings, random);
     }
     if shape.length > 0 && random.below(4) == 0 {
-        let (place, byte) = (random.below(shape.length as u64) as usize, high_byte(random));
+        let (place, byte) = (random.index(shape.length), high_byte(random));
         strings.iter_mut().for_each(|string| string[place] = byte);
     }
     strings
@@ -170,8 +160,7 @@ fn put(byte: u8, strings: &mut Strings, random: &mut Random) {
         return;
     };
     if !string.is_empty() {
-        let back =
-            if random.below(2) == 0 { 0 } else { random.below(string.len() as u64) as usize };
+        let back = if random.below(2) == 0 { 0 } else { random.index(string.len()) };
         let place = string.len() - 1 - back;
         string[place] = byte;
     }
@@ -183,7 +172,7 @@ fn one_of_them<'a>(strings: &'a mut Strings, random: &mut Random) -> Option<&'a 
         0 => strings.first_mut(),
         1 => strings.last_mut(),
         _ => {
-            let any = random.below(strings.len().max(1) as u64) as usize;
+            let any = random.index(strings.len().max(1));
             strings.get_mut(any)
         }
     }
@@ -219,9 +208,9 @@ fn any_bytes(shape: Shape, random: &mut Random) -> Strings {
 
 /// Two sets of the other kinds, one for each strand, and strings of neither strand.
 fn two_strands(shape: Shape, random: &mut Random) -> Strings {
-    let others = random.below(3) as usize;
+    let others = random.index(3);
     let both = shape.strings.saturating_sub(others);
-    let any = random.below(both as u64 + 1) as usize;
+    let any = random.index(both + 1);
     let of_a = random.one_of(&[0, both / 2, both / 2, any, both]);
     let mut strings = strand(of_a, b"/A", shape, random);
     strings.extend(strand(both - of_a, b"/B", shape, random));
@@ -241,7 +230,7 @@ fn strand(strings: usize, suffix: &[u8], shape: Shape, random: &mut Random) -> S
     let single_strands = KINDS.len() as u64 - 1;
     // a strand of the first kinds is answered, and else the other one would seldom be looked at
     let kinds = random.one_of(&[5, single_strands]);
-    let draw = KINDS[random.below(kinds) as usize].draw;
+    let draw = KINDS[random.below(kinds) as usize].1;
     let mut strings = draw(Shape { strings, length }, random);
     for string in &mut strings {
         string.truncate(longest);

@@ -1,18 +1,17 @@
-//! The Rust's answers.
+//! The Rust's answers, and what is to be found for a set.
 
 use oracle::base_builder::accessors::state;
 use oracle::simple_umi::accessors::{inner, wrapped, wrapped_builder};
 use oracle::simple_umi::{SimpleConsensusCaller, SimpleUmiConsensusCaller, consensus_umis};
 
-use super::condition::strand;
-use super::function::{DEFAULTS, Function, Rates};
-use crate::builder::report::{state_bytes, state_of};
-use crate::builder::sides::StateBytes;
-use crate::difference::stored_bits;
+use super::set::{CUT_OFF, DEFAULTS, Function, LONGEST, Rates, TOO_LONG, condition, read, strand};
+use crate::builder::report::{StateBytes, state_bytes, state_of};
+use crate::numbers::stored_bits;
 use crate::panics;
 
 /// An answer: the string, its flags (false where the function gives none), and the caller's builder
 /// afterwards where the function is asked of a caller.
+#[derive(Clone)]
 pub struct Given {
     pub string: Vec<u8>,
     pub flags: [bool; 2],
@@ -24,13 +23,40 @@ impl Given {
     pub fn has_counted(&self) -> bool {
         self.after.is_some_and(|after| state_of(&after).observations != [0; 4])
     }
+
+    /// The reply to a set with this answer.
+    pub fn reply(&self) -> u64 {
+        let [first, second] = self.flags.map(u64::from);
+        256 + 4 * self.string.len() as u64 + 2 * second + first
+    }
 }
 
-/// What a new caller answers to strings of bytes below 128, or the number of the condition for which
-/// it panics.
-pub fn reply(function: Function, rates: Rates, strings: &[&[u8]]) -> Result<Given, u64> {
-    let umis = texts(strings).expect("bytes below 128");
-    panics::answer(|| Caller::new(rates).ask(function, &umis))
+/// An answer, or the number of a condition; 0 is that of no function.
+pub type Found = Result<Given, u64>;
+
+/// What is to be found for a set, by the conditions and, wherever it can be asked, by the Rust. It must
+/// panic for the condition that is met and nowhere else; where it does not, what is wrong.
+pub fn found(function: Function, rates: Rates, set: &[u8]) -> Result<Found, String> {
+    if set.len() > LONGEST {
+        return Ok(Err(TOO_LONG));
+    }
+    let Some(strings) = read(set) else {
+        return Ok(Err(CUT_OFF));
+    };
+    let condition = condition(function, &strings);
+    if !strings.iter().all(|string| string.is_ascii()) {
+        let answer = || Caller::new(rates).answer(function, &strings);
+        return Ok(condition.map_or_else(|| Ok(answer()), Err));
+    }
+    let umis = texts(&strings).expect("bytes below 128");
+    let rust = panics::answer(|| Caller::new(rates).ask(function, &umis));
+    let panicked = rust.as_ref().err().copied();
+    if panicked == condition {
+        return Ok(rust);
+    }
+    let words = |number: Option<u64>| number.map_or("none".to_owned(), |it| it.to_string());
+    let (condition, panicked) = (words(condition), words(panicked));
+    Err(format!("the condition is {condition}, and the Rust panics for {panicked}"))
 }
 
 /// A caller of the Rust, which can be asked again and again.
@@ -99,11 +125,12 @@ impl Caller {
     }
 
     fn given(&self, function: Function, string: Vec<u8>, flags: [bool; 2]) -> Given {
-        Given { string, flags, after: function.is_of_caller().then(|| self.state()) }
+        let of_caller = Function::OF_CALLER.contains(&function);
+        Given { string, flags, after: of_caller.then(|| self.state()) }
     }
 }
 
 /// The strings as the Rust takes them; None where one is no UTF-8.
-fn texts(strings: &[&[u8]]) -> Option<Vec<String>> {
+pub fn texts(strings: &[&[u8]]) -> Option<Vec<String>> {
     strings.iter().map(|string| String::from_utf8(string.to_vec()).ok()).collect()
 }
