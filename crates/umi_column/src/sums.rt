@@ -6,7 +6,7 @@ ghost use Rattle.tie_rules.specs.Lanes.{noLane, laneOfByte};
 ghost use Rattle.umi_column.specs.Sums.{noSums, windowOf, summedBy};
 use base_builder::LaneSums;
 use base_builder::moved_lanes;
-use lent_bytes::wide;
+use widths::wide;
 
 // Before the first byte.
 pub fn no_sums() -> LaneSums

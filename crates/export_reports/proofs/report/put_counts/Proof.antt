@@ -2,7 +2,8 @@
 use native.Mathlib.Omega.{arith}
 use lib.ListN.{getD}
 use Rattle.export_reports.specs.Report.{eachLane}
-use Rattle.export_reports.proofs.Puts.{put-then, put-length, bytes-length}
+use Rattle.lent_bytes.proofs.Numbers.{bytes-length}
+use Rattle.export_reports.proofs.Puts.{put-then, put-length}
 use borrow.Author.Needs.{needs}
 use Rattle.export_reports.proofs.report.put_counts.Statement.{statement}
 use Rattle.export_reports.proofs.report.put_counts.Tie as tie

@@ -1,7 +1,8 @@
 -- `put_patterns`: four puts of 8 bytes. Assumes nothing.
 use native.Mathlib.Omega.{arith}
 use Rattle.export_reports.specs.Report.{eachLane}
-use Rattle.export_reports.proofs.Puts.{put-then, put-length, bytes-length}
+use Rattle.lent_bytes.proofs.Numbers.{bytes-length}
+use Rattle.export_reports.proofs.Puts.{put-then, put-length}
 use borrow.Author.Needs.{needs}
 use Rattle.export_reports.proofs.report.put_patterns.Statement.{statement}
 use Rattle.export_reports.proofs.report.put_patterns.Tie as tie
