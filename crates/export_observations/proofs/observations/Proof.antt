@@ -28,11 +28,13 @@ put-counts-requires c κs = rw (c .builder-of .ensures) (counts-length 0 _)
 
 returns-3 : tie.Need-returns-3
 returns-3 c =
+    let if1 = c .before .before .before .before .before .before .if1 in
+    let builder-of = c .before .before .before .builder-of in
     let a = c .before .before .before .before .before .before .before .before .before .args in
     let s = a .state .now in
     let fits : length (asked s) ≤ length (a .out .now) = omega (arith, asked-length s) in
-    rw (eighty s (c .before .before .before .before .before .before .if1 .left))
-    (sym (asked-length s) ∙ fits-replied _ _ fits, printed-written (rw (c .before .before .before .builder-of .ensures) at (c .before .before .put-counts .ensures)) fits .1)
+    rw (eighty s (if1 .left))
+    (sym (asked-length s) ∙ fits-replied _ _ fits, printed-written (rw (builder-of .ensures) at (c .before .before .put-counts .ensures)) fits .1)
 
 pub observations-spec : {M : Type 1} → statement M
 observations-spec = tie.close (tie.spec returns returns-2 (λ c κs. search needs) put-counts-requires (λ c. search needs) returns-3)

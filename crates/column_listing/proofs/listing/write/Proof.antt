@@ -16,8 +16,9 @@ use Rattle.column_listing.proofs.listing.write.Tie as tie
 
 -- the file was accepted
 given : (c : tie.After-judgement2)
-    → let g = c .judgement2 .given .0 in
-    AcceptedAs (judgeFile (c .before .before .before .before .before .before .args .file .now)) (g .0) (g .1 .0) (g .1 .1 .0)
+    → let s = c .before .before .before .before .before .before .args .file .now in
+    let g = c .judgement2 .given .0 in
+    AcceptedAs (judgeFile s) (g .0) (g .1 .0) (g .1 .1 .0)
 given c =
     let j = c .before .before .before .judge in
     said-accepted _ (j .result .judgement) (j .ensures .0) _ _ _ (c .judgement2 .given .1)

@@ -6,7 +6,10 @@ use Rattle.export_reports.proofs.report.put_reply.Statement.{statement}
 use Rattle.export_reports.proofs.report.put_reply.Tie as tie
 
 returns : tie.Need-returns
-returns c = rw (c .before .before .before .before .before .before .before .before .before .reply .given .1) (put-then (c .before .before .before .before .before .before .put-byte .ensures) (c .before .before .put-call .ensures))
+returns c =
+    let reply = c .before .before .before .before .before .before .before .before .before .reply in
+    let put-byte = c .before .before .before .before .before .before .put-byte in
+    rw (reply .given .1) (put-then (put-byte .ensures) (c .before .before .put-call .ensures))
 
 returns-2 : tie.Need-returns-2
 unfolding numberBytes
