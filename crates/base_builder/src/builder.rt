@@ -1,7 +1,6 @@
 // The builder of one position: a running sum of logarithms for each base, and how often each base was
 // observed. It goes in by value and comes back.
 ghost use mathlib.Core.Path.{_≡_};
-ghost use Prim.Native.Nat.{_<_};
 ghost use Rattle.tie_rules.specs.Lanes.{lane};
 ghost use Rattle.base_builder.specs.Builder.{total as totalOf, cleared as clearedOf, newAt, withTieRule, resetOf, observedBy, entryOf, addedBy, added, answerOf, addNumber, refusalOf, contributionsOf, observationsForBase};
 use lane_sums::LaneSums;
@@ -14,6 +13,7 @@ use rate_tables::AdjustedProbabilityTables;
 use tie_rules::NO_LANE;
 use tie_rules::TieRule;
 use tie_rules::lane_of;
+use widths::u32_as_u64;
 
 pub struct ConsensusBaseBuilder {
     // The logarithm of the likelihood of A, C, G and T, and its compensation.
@@ -138,14 +138,10 @@ fn cleared(rule: TieRule, pre: LogProbability) -> ConsensusBaseBuilder
 pub fn total(observations: [u32; 4]) -> u64
     ensures { λ r. ⌜ r ≡ totalOf observations ⌝ }
 {
-    wide(observations[0]) + wide(observations[1]) + wide(observations[2]) + wide(observations[3])
-}
-
-fn wide(n: u32) -> u64
-    ensures { λ r. ⌜ r ≡ n ⌝ }
-    ensures { λ r. ⌜ r < 4294967296 ⌝ }
-{
-    n as u64
+    u32_as_u64(observations[0])
+        + u32_as_u64(observations[1])
+        + u32_as_u64(observations[2])
+        + u32_as_u64(observations[3])
 }
 
 // One observation, with the two tables lent.

@@ -1,4 +1,3 @@
 pub mod Bytes
 pub mod Walk
 pub mod Tables
-pub mod Readings

@@ -4,3 +4,5 @@ pub mod SettingsRead
 pub mod Sections
 pub mod FileRead
 pub mod FileLayout
+pub mod Readings
+pub mod Files

@@ -2,16 +2,12 @@
 use mathlib.Core.List.{List, [], _∷_, _++_}
 use Prim.Native.Nat.{ℕ, _/_, _%_}
 use lib.ListN.{length}
+use Rattle.lent_bytes.specs.Bytes.{joined}
 use Rattle.tie_rules.specs.declared.tie_rule.TieRule.{TieRule}
 use Rattle.tie_rules.specs.declared.tie_rule.TieRule.the-variants.{UlpRelative, FgbioCompat}
 use Rattle.column_file.specs.declared.settings.Settings.{Settings}
 use Rattle.column_file.specs.Format.{Observation}
 use Rattle.column_file.specs.Reading.{File}
-
--- the bytes of parts, one after another
-abbrev pub joined : {A : Type 0} → (A → List ℕ) → List A → List ℕ
-joined bytes [] = []
-joined bytes (a ∷ l) = bytes a ++ joined bytes l
 
 -- a count in two bytes, the low byte first
 abbrev pub wordBytes : ℕ → List ℕ

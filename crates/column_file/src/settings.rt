@@ -6,11 +6,11 @@ ghost use Rattle.words.specs.Lists.{byteAt};
 ghost use Rattle.refusals.specs.Refusals.{numberIn};
 ghost use Rattle.column_file.specs.Reading.{settingsOf, readSettings};
 ghost use Rattle.column_file.specs.Places.{headOf, settledOf, settingsReadingOf, settingsNumber, wordAt};
-use lent_bytes::wide;
 use phred::PhredScore;
 use refusals::Refusal;
 use tie_rules::TieRule;
 use tie_rules::rule_of;
+use widths::wide;
 
 pub struct Settings {
     pub error_rate_pre_umi: PhredScore,

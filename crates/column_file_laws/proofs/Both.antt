@@ -22,7 +22,8 @@ use Rattle.string_set.specs.StringSet.{string, stringSet}
 use Rattle.column_file.specs.declared.settings.Settings.{Settings}
 use Rattle.column_file.specs.Format.{observation, column, settings, columns, Sections, sections}
 use Rattle.column_file.specs.Reading.{settingsAt, settingsOf, columnsVerdict, File, fileOf, readFile}
-use Rattle.column_file.specs.Encoding.{joined, wordBytes, ruleNumber, settingsBytes, observationBytes, columnBytes, columnsBytes, stringBytes}
+use Rattle.lent_bytes.specs.Bytes.{joined}
+use Rattle.column_file.specs.Encoding.{wordBytes, ruleNumber, settingsBytes, observationBytes, columnBytes, columnsBytes, stringBytes}
 use Rattle.column_file.specs.Encoding.{stringSetBytes, fileBytes}
 use Rattle.column_file_laws.specs.Encoding.{isByte, InFormat, BothWays}
 

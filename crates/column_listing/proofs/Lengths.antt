@@ -13,6 +13,7 @@ use Rattle.refusals.specs.declared.Refusal.{Refusal}
 use Rattle.refusals.specs.declared.Refusal.the-variants.{FileTooLong, CutOff, BadSettings, AbsentQuality, NoStrings, LengthsDiffer, NotAscii, UnlikeFirst, Mixed, BufferTooShort, FullBuilder}
 use Rattle.refusals.specs.Refusals.{numberOf}
 use Rattle.refusals.specs.Result.{accepted}
+use Rattle.string_set.specs.Readers.{longestFile}
 use Rattle.lent_text.proofs.Decimal.{decimal-length}
 use Rattle.tie_rules.specs.Lanes.{counted}
 use Rattle.lane_calls.specs.declared.call.Call.{Call}
@@ -28,11 +29,11 @@ use Rattle.column_file.specs.Format.{Observation}
 use Rattle.column_file.specs.Reading.{File, readFile}
 use Rattle.column_file.specs.Places.{columnsSize}
 use Rattle.column_calls.specs.Columns.{eventOf, builderOf, columnCall}
-use Rattle.column_calls.proofs.Readings.{FileAt}
+use Rattle.column_file.proofs.Readings.{FileAt}
 use Rattle.listing_lines.specs.Lines.{lineOf, columnLine, columnLines, umiLine, textOf, refusalLine}
 use Rattle.column_listing.specs.Listing.{linesOf}
 use Rattle.column_listing.specs.Places.{placesText}
-use Rattle.column_listing.proofs.Files.{two-each, columns-inside, file-size}
+use Rattle.column_file.proofs.Files.{two-each, columns-inside, file-size}
 use Rattle.column_listing.proofs.Texts.{text-parts, text-is}
 
 -- of a call's line, where its number and its depth are below 100,000, its quality below 100 and its counts 32-bit numbers
@@ -74,7 +75,7 @@ module _ (g : Settings) where
       (laws pre post (g .«tie_rule») es .most)
 
   -- of all of them, which take at most 65,536 bytes
-  pub columns-length : (i : ℕ) (cs : List (List Observation)) → i + length cs ≤ 100000 → columnsSize cs ≤ 65536 → length (textOf (columnLines i g cs)) ≤ 70 * length cs
+  pub columns-length : (i : ℕ) (cs : List (List Observation)) → i + length cs ≤ 100000 → columnsSize cs ≤ longestFile → length (textOf (columnLines i g cs)) ≤ 70 * length cs
   unfolding columnLines columnsSize
   columns-length i [] h k = omega arith
   columns-length i (c ∷ cs) h k =

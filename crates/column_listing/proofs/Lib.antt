@@ -1,4 +1,3 @@
-pub mod Files
 pub mod Texts
 pub mod Lengths
 pub mod Outcomes

@@ -1,4 +1,4 @@
--- What the functions reply and leave in the buffer, by what the caller answers and by what is listed. Assumes nothing.
+-- What the functions reply and leave in the buffer, by what is judged and by what is listed. Assumes nothing.
 use mathlib.Core.Path.{_≡_, refl, sym, _∙_, ap, subst}
 use mathlib.Core.Bool.{Bool, true, false, not}
 use mathlib.Core.List.{List}
@@ -24,19 +24,13 @@ use Rattle.rate_tables.specs.Adjusted.{adjustedTables}
 use Rattle.gap_tables.specs.Gaps.{gapTables}
 use Rattle.base_builder.specs.declared.builder.ConsensusBaseBuilder.{ConsensusBaseBuilder}
 use Rattle.observation_windows.specs.Windows.{windowsOf}
-use Rattle.string_set.specs.StringSet.{readSet}
-use Rattle.simple_umi.specs.declared.answers.FlaggedAnswer.{FlaggedAnswer}
-use Rattle.simple_umi.specs.declared.answers.FlaggedAnswer.the-variants as answer
-use Rattle.simple_umi.specs.declared.caller.SimpleConsensusCaller.{SimpleConsensusCaller}
-use Rattle.simple_umi.specs.Consensus.{Found, defaultCaller, consensusOf}
-use Rattle.simple_umi.specs.Answers.{consensusIn, flaggedOf, flaggedLength, bufferAfter}
 use Rattle.column_file.specs.declared.file.Places.{Places}
-use Rattle.column_file.specs.Reading.{readFile}
 use Rattle.column_file.specs.Places.{columnsAt}
+use Rattle.judged_file.specs.Judged.{judgeFile}
+use Rattle.judged_file.proofs.Judged.{AcceptedAs, judged-at}
 use Rattle.column_calls.specs.Columns.{startOf}
 use Rattle.column_calls.specs.Tables.{columnCallWith}
 use Rattle.column_calls.proofs.Tables.{calls-with}
-use Rattle.column_calls.proofs.Readings.{FileAt}
 use Rattle.listing_lines.specs.Lines.{refusalLine}
 use Rattle.listing_lines.specs.Tables.{textWith}
 use Rattle.column_listing.specs.declared.listing.Listing.{Listing}
@@ -46,7 +40,6 @@ use Rattle.column_listing.specs.declared.listing.Outcome.the-variants as
 use Rattle.column_listing.specs.Listing.{listed, printed, listingOf}
 use Rattle.column_listing.specs.Answers.{roomFor, listedIn, listingAnswer, listingNumber, listingBuffer, outcomeOf}
 use Rattle.column_listing.specs.Places.{placesText}
-use Rattle.column_listing.proofs.Files.{strings-read}
 use Rattle.column_listing.proofs.Texts.{text-is}
 
 -- ---- a text and its room
@@ -101,68 +94,17 @@ printed-front {o} {o1} {t} {w} p h =
     let q = printed-written p h in
     rw (q .0, q .1) (written-front t o h)
 
--- ---- the answer to a file's strings
+-- ---- a file
 
--- accepted, with a string of this length and this flag
-pub record AnsweredAs (t : Result Found) (n : ℕ) (flag : Bool) : Type 0 where
-  pub found : Found
-  pub is : t ≡ accepted found
-  pub size : n ≡ length (found .text)
-  pub flagged : flag ≡ found .hadErrors
-
--- what an answer says of a result
-abbrev Said : Result Found → FlaggedAnswer → Type 0
-Said t (answer.Refused r) = t ≡ refused r
-Said t (answer.Given n flag) = AnsweredAs t n flag
-
--- and that is so of its own answer
-by-answer : (t : Result Found) → Said t (flaggedOf t)
-by-answer (refused r) = refl
-by-answer (accepted u) = record { found = u; is = refl; size = refl; flagged = refl }
-
-module _ (t : Result Found) (g : FlaggedAnswer) (e : g ≡ flaggedOf t) where
-  pub said-refused : (r : Refusal) → g ≡ answer.Refused r → t ≡ refused r
-  said-refused r h = subst (Said t) (sym e ∙ h) (by-answer t)
-
-  pub said-given : (n : ℕ) (flag : Bool) → g ≡ answer.Given n flag → AnsweredAs t n flag
-  said-given n flag h = subst (Said t) (sym e ∙ h) (by-answer t)
-
--- no string is longer than the caller says
-pub given-short : (g : FlaggedAnswer) (n : ℕ) (flag : Bool) → g ≡ answer.Given n flag → flaggedLength g ≤ 255 → n ≤ 255
-given-short g n flag e h = subst (λ (x : FlaggedAnswer). flaggedLength x ≤ 255) e h
-
--- the string is at the front of the caller's buffer
-pub string-there : (t : Result Found) (out o : List ℕ) (n : ℕ) (flag : Bool) (a : AnsweredAs t n flag) → o ≡ bufferAfter out t → n ≤ length out
-    → take n o ≡ a .found .text
-string-there t out o n flag a e h =
-    let b : o ≡ written (a .found .text) out = e ∙ ap (bufferAfter out) (a .is) in
-    let k : length (a .found .text) ≤ length out = rw (a .size) at h in
-    rw (b, a .size) (written-front (a .found .text) out k)
-
--- a file that is refused
-pub file-refused : (s : List ℕ) (r : Refusal) → readFile s ≡ refused r → listed s ≡ refused r
-unfolding listed
-file-refused s r e = rw e
-
-module _ (s : List ℕ) (p : Places) (a : FileAt (readFile s) p) where
-  -- with a buffer of 255 bytes, at the defaults
-  module _ (set out : List ℕ) (c : SimpleConsensusCaller) (k : set ≡ drop (p .strings) s) (e : c ≡ defaultCaller)
-      (h : consensusIn c set out ≡ andThen (readSet set) (consensusOf c)) where
-    consensus-said : consensusIn c set out ≡ consensusOf defaultCaller (a .file .strings)
-    consensus-said = h ∙ rw (k, strings-read s p a, e)
-
-    pub answer-said : (g : FlaggedAnswer) (o : List ℕ) → g ≡ flaggedOf (consensusIn c set out) → o ≡ bufferAfter out (consensusIn c set out)
-        → (g ≡ flaggedOf (consensusOf defaultCaller (a .file .strings))) × (o ≡ bufferAfter out (consensusOf defaultCaller (a .file .strings)))
-    answer-said g o i j = (i ∙ ap flaggedOf consensus-said, j ∙ ap (bufferAfter out) consensus-said)
-
-  -- so a file is listed
-  pub listed-refused : (r : Refusal) → consensusOf defaultCaller (a .file .strings) ≡ refused r → listed s ≡ refused r
+module _ (s : List ℕ) where
+  pub listed-refused : (r : Refusal) → judgeFile s ≡ refused r → listed s ≡ refused r
   unfolding listed
-  listed-refused r e = rw (a .is, e)
+  listed-refused r e = rw e
 
-  pub listed-accepted : (u : Found) → consensusOf defaultCaller (a .file .strings) ≡ accepted u → listed s ≡ accepted (placesText p s (u .text) (u .hadErrors))
+  pub listed-accepted : (p : Places) (n : ℕ) (flag : Bool) (a : AcceptedAs (judgeFile s) p n flag)
+      → listed s ≡ accepted (placesText p s (a .judged .found .text) (a .judged .found .hadErrors))
   unfolding listed
-  listed-accepted u e = rw (a .is, e, text-is s p a u)
+  listed-accepted p n flag a = rw (a .is, text-is s p (judged-at s p n flag a) (a .judged .found))
 
 -- ---- the replies
 

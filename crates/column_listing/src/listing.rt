@@ -6,9 +6,9 @@ ghost use lib.ListN.{length};
 ghost use Rattle.lent_bytes.specs.Buffer.{lengthWritten, written};
 ghost use Rattle.refusals.specs.Refusals.{numberIn};
 ghost use Rattle.refusals.specs.Result.{accepted};
+ghost use Rattle.string_set.specs.Readers.{longestFile};
 ghost use Rattle.unanimous_shortcut.specs.Unanimous.{tablesOf};
-ghost use Rattle.column_file.specs.Reading.{readFile};
-ghost use Rattle.column_file.specs.Places.{columnsAt, readingOf};
+ghost use Rattle.column_file.specs.Places.{columnsAt};
 ghost use Rattle.column_calls.specs.Tables.{columnCallWith};
 ghost use Rattle.column_listing.specs.Listing.{listed, listingOf};
 ghost use Rattle.column_listing.specs.Answers.{listedIn, listingAnswer, listingNumber, listingBuffer, outcomeOf};
@@ -17,14 +17,13 @@ ghost use Rattle.listing_lines.specs.Lines.{refusalLine};
 ghost use Rattle.listing_lines.specs.Tables.{textWith};
 use base_builder::ConsensusBaseBuilder;
 use column_file::Places;
-use column_file::Reading;
+use judged_file::Judgement;
+use judged_file::judge;
 use listing_lines::put_refusal;
 use listing_lines::put_text;
 use observation_windows::windows;
 use rate_tables::AdjustedProbabilityTables;
 use refusals::Refusal;
-use simple_umi::FlaggedAnswer;
-use simple_umi::SimpleUmiConsensusCaller;
 
 // Refused, or the length of the text.
 pub enum Listing {
@@ -54,7 +53,7 @@ fn fits(
     text: &[u8],
     had_errors: bool,
 ) -> bool
-    requires { ⌜ count < 65536 ⌝ }
+    requires { ⌜ count < longestFile ⌝ }
     requires { ⌜ length (textWith (columnCallWith (now rows) start (tablesOf (now thresholds) (now «cerr_min») cap)) (columnsAt (now file) from count) (now text) «had_errors») ≤ 300 + 70 * count ⌝ }
     ensures { λ r. ⌜ r ≡ leb (length (textWith (columnCallWith (now (rows .entry)) start (tablesOf (now (thresholds .entry)) (now («cerr_min» .entry)) cap)) (columnsAt (now (file .entry)) from count) (now (text .entry)) «had_errors»)) room ⌝ }
 {
@@ -80,7 +79,7 @@ fn fits(
 
 // The text, where it fits.
 fn write_text(file: &[u8], places: Places, text: &[u8], had_errors: bool, out: &mut [u8]) -> Outcome
-    requires { ⌜ (places .count < 65536) × (length (placesText places (now file) (now text) «had_errors») ≤ 300 + 70 * places .count) ⌝ }
+    requires { ⌜ (places .count < longestFile) × (length (placesText places (now file) (now text) «had_errors») ≤ 300 + 70 * places .count) ⌝ }
     ensures reply { λ r. ⌜ r ≡ outcomeOf (now (out .entry)) (accepted (placesText places (now (file .entry)) (now (text .entry)) «had_errors»)) ⌝ }
     ensures lent { λ _. ⌜ now (out .exit) ≡ written (placesText places (now (file .entry)) (now (text .entry)) «had_errors») (now (out .entry)) ⌝ }
 {
@@ -129,32 +128,18 @@ fn write_text(file: &[u8], places: Places, text: &[u8], had_errors: bool, out: &
     ))
 }
 
-// Of a file that is read: 7 to 9 by its strings. No consensus has more than 255 bytes.
-fn write_accepted(file: &[u8], places: Places, out: &mut [u8]) -> Outcome
-    requires { ⌜ readingOf (readFile (now file)) ≡ Reading.Accepted places ⌝ }
-    ensures reply { λ r. ⌜ r ≡ outcomeOf (now (out .entry)) (listed (now (file .entry))) ⌝ }
-    ensures lent { λ _. ⌜ now (out .exit) ≡ listingBuffer (now (out .entry)) (listedIn (now (file .entry)) (now (out .entry))) ⌝ }
-{
-    let strings = places.strings;
-    let mut text = [0u8; 255];
-    let consensus = SimpleUmiConsensusCaller::default().consensus(&file[strings..], &mut text);
-    let answer = consensus.answer;
-    match answer {
-        FlaggedAnswer::Refused(refusal) => Outcome::Refused(refusal),
-        FlaggedAnswer::Given(n, had_errors) => {
-            write_text(file, places, &text[..n], had_errors, out)
-        }
-    }
-}
-
 fn write(file: &[u8], out: &mut [u8]) -> Outcome
     ensures reply { λ r. ⌜ r ≡ outcomeOf (now (out .entry)) (listed (now (file .entry))) ⌝ }
     ensures lent { λ _. ⌜ now (out .exit) ≡ listingBuffer (now (out .entry)) (listedIn (now (file .entry)) (now (out .entry))) ⌝ }
 {
-    let reading = column_file::read(file);
-    match reading {
-        Reading::Refused(refusal) => Outcome::Refused(refusal),
-        Reading::Accepted(places) => write_accepted(file, places, out),
+    let judged = judge(file);
+    let text = judged.text;
+    let judgement = judged.judgement;
+    match judgement {
+        Judgement::Refused(refusal) => Outcome::Refused(refusal),
+        Judgement::Accepted(places, n, had_errors) => {
+            write_text(file, places, &text[..n], had_errors, out)
+        }
     }
 }
 

@@ -19,9 +19,11 @@ use Rattle.simple_umi.specs.Consensus.{Found, defaultCaller, found, consensusOf
 use Rattle.simple_umi_laws.proofs.AnswerLaws.{answered, no-refusal}
 use Rattle.column_file.specs.Reading.{File, readFile}
 use Rattle.column_file.specs.Places.{headSize, columnsSize}
+use Rattle.column_file.proofs.Files.{two-each, columns-inside, file-size, strings-there}
+use Rattle.judged_file.specs.Judged.{Judged, judgeFile}
+use Rattle.judged_file.proofs.Judged.{judged-parts}
 use Rattle.listing_lines.specs.Lines.{textOf, refusalLine}
 use Rattle.column_listing.specs.Listing.{linesOf, listed, printed, listingOf}
-use Rattle.column_listing.proofs.Files.{two-each, columns-inside, file-size, strings-there}
 use Rattle.column_listing.proofs.Lengths.{text-length, refusal-length}
 use Rattle.column_listing_laws.specs.Laws.{longest, Fits}
 
@@ -113,19 +115,17 @@ module _ (s : List ℕ) where
         file-size s f e,
       )
 
-  by-strings : (f : File) → readFile s ≡ accepted f → (t : Result Found) → consensusOf defaultCaller (f .strings) ≡ t
-      → Short (printed (andThen t (λ u. accepted (textOf (linesOf f u)))))
+  by-judged : (t : Result Judged) → judgeFile s ≡ t → Short (printed (andThen t (λ j. accepted (textOf (linesOf (j .file) (j .found))))))
   unfolding linesOf
-  by-strings f e (refused r) k = by-refusal r
-  by-strings f e (accepted u) k = (omega arith, omega (arith, text-length s f u e, consensus-length f u e k, two-each (f .columns)))
-
-  by-file : (t : Result File) → readFile s ≡ t
-      → Short (printed (andThen t (λ f. andThen (consensusOf defaultCaller (f .strings)) (λ u. accepted (textOf (linesOf f u))))))
-  by-file (refused r) e = by-refusal r
-  by-file (accepted f) e = by-strings f e (consensusOf defaultCaller (f .strings)) refl
+  by-judged (refused r) e = by-refusal r
+  by-judged (accepted j) e =
+      let f = j .file in
+      let u = j .found in
+      let parts = judged-parts s j e in
+      (omega arith, omega (arith, text-length s f u (parts .0), consensus-length f u (parts .0) (parts .1), two-each (f .columns)))
 
 pub fits : (s : List ℕ) → Fits s
 unfolding listingOf listed
 fits s =
-    let h = by-file s (readFile s) refl in
+    let h = by-judged s (judgeFile s) refl in
     record { some = h .0; most = h .1 }

@@ -2,8 +2,9 @@
 use mathlib.Core.Path.{_≡_, refl}
 use mathlib.Core.List.{List, [], _∷_, _++_}
 use Prim.Native.Nat.{ℕ, _+_, _-_, _*_, _≤_, _<_}
-use native.Mathlib.Omega.{arith}
-use lib.ListN.{length, take, drop, length-append}
+use lib.ListN.{length, take, drop}
+use Rattle.lent_bytes.specs.Bytes.{numberBytes}
+use Rattle.lent_bytes.proofs.Joined.{joined-length}
 use Rattle.column_file.specs.declared.columns.ColumnPlace.the-variants.{At, Past}
 use Rattle.column_file.specs.Format.{Observation}
 use Rattle.column_file.specs.Places.{columnAt, columnsAt}
@@ -12,19 +13,16 @@ use Rattle.column_calls.specs.declared.columns.ColumnCall.{ColumnCall}
 use Rattle.column_calls.specs.Tables.{observationsIn}
 use Rattle.column_calls.proofs.Bytes.{part-observations}
 use Rattle.column_calls.proofs.Walk.{columns-more, columns-past, columns-none}
-use Rattle.column_records.specs.Records.{fourBytes, recordOf, recordsWith}
+use Rattle.column_records.specs.Records.{recordOf, recordsWith}
 
 -- 28 bytes each
 record-length : (c : ColumnCall) (depth n : ℕ) → length (recordOf c depth n) ≡ 28
-unfolding recordOf fourBytes
+unfolding recordOf numberBytes
 record-length c depth n = refl
 
 pub records-length : (called : List Observation → ColumnCall) (cs : List (List Observation)) → length (recordsWith called cs) ≡ 28 * length cs
 unfolding recordsWith
-records-length called [] = refl
-records-length called (c ∷ cs) =
-    rw (length-append (recordOf (called c) (length c) (length c)) (recordsWith called cs))
-    (omega (arith, record-length (called c) (length c) (length c), records-length called cs))
+records-length called cs = joined-length _ 28 (λ c. record-length (called c) (length c) (length c)) cs
 
 -- n columns from a place on, by what is called of each
 module _ (called : List Observation → ColumnCall) (s : List ℕ) (at n : ℕ) where

@@ -1,5 +1,6 @@
 -- What is replied and left in the buffer, by the room and by what the file says. Assumes nothing.
-use mathlib.Core.Path.{_≡_, refl, _∙_, ap}
+use mathlib.Core.Path.{_≡_, refl, sym, _∙_, ap}
+use mathlib.Core.Bool.{Bool}
 use mathlib.Core.List.{List}
 use Prim.Native.Nat.{ℕ, _≤_, _<_}
 use borrow.Author.Tests.{le-ltb, lt-ltb}
@@ -17,16 +18,16 @@ use Rattle.gap_tables.specs.declared.gaps.UnanimousGapTables.{UnanimousGapTable
 use Rattle.gap_tables.specs.Gaps.{gapTables}
 use Rattle.base_builder.specs.declared.builder.ConsensusBaseBuilder.{ConsensusBaseBuilder}
 use Rattle.observation_windows.specs.Windows.{windowsOf}
-use Rattle.simple_umi.specs.Consensus.{Found, defaultCaller, consensusOf}
 use Rattle.column_file.specs.declared.settings.Settings.{Settings}
 use Rattle.column_file.specs.declared.file.Places.{Places}
-use Rattle.column_file.specs.Reading.{readFile}
 use Rattle.column_file.specs.Places.{columnsAt}
 use Rattle.column_calls.specs.declared.columns.ColumnCall.{ColumnCall}
 use Rattle.column_calls.specs.Columns.{startOf, calledColumn}
 use Rattle.column_calls.specs.Tables.{columnCallWith}
 use Rattle.column_calls.proofs.Tables.{calls-with}
-use Rattle.column_calls.proofs.Readings.{FileAt, columns-read}
+use Rattle.column_file.proofs.Readings.{columns-read}
+use Rattle.judged_file.specs.Judged.{judgeFile}
+use Rattle.judged_file.proofs.Judged.{AcceptedAs, judged-at}
 use Rattle.column_listing.specs.declared.listing.Listing.{Listing}
 use Rattle.column_listing.specs.declared.listing.Listing.the-variants as listing
 use Rattle.column_listing.specs.Answers.{roomFor, listingAnswer, listingBuffer, listingNumber}
@@ -65,25 +66,23 @@ pub refused-reply : (s out : List ℕ) (r : Refusal) → recordsOf s ≡ refused
 unfolding recordsIn
 refused-reply s out r e = (rw e, rw e)
 
-pub file-refused : (s : List ℕ) (r : Refusal) → readFile s ≡ refused r → recordsOf s ≡ refused r
-unfolding recordsOf
-file-refused s r e = rw e
-
-module _ (s : List ℕ) (p : Places) (a : FileAt (readFile s) p) where
-  -- by its strings
-  pub strings-refused : (r : Refusal) → consensusOf defaultCaller (a .file .strings) ≡ refused r → recordsOf s ≡ refused r
+module _ (s : List ℕ) where
+  pub records-refused : (r : Refusal) → judgeFile s ≡ refused r → recordsOf s ≡ refused r
   unfolding recordsOf
-  strings-refused r e = rw (a .is, e)
+  records-refused r e = rw e
 
-  -- as many columns as are announced
-  pub columns-there : length (columnsAt s (p .columns) (p .count)) ≡ p .count
-  columns-there = rw (columns-read s p a, a .places)
+  module _ (p : Places) (n : ℕ) (flag : Bool) (a : AcceptedAs (judgeFile s) p n flag) where
+    -- as many columns as are announced
+    pub columns-there : length (columnsAt s (p .columns) (p .count)) ≡ p .count
+    columns-there = ap length (columns-read s p (judged-at s p n flag a)) ∙ sym (ap (λ (q : Places). q .count) (a .places))
 
-  -- not refused: what its records reply
-  pub records-there : (u : Found) → consensusOf defaultCaller (a .file .strings) ≡ accepted u
-      → recordsOf s ≡ accepted (recordsWith (calledColumn (p .settings)) (columnsAt s (p .columns) (p .count)))
-  unfolding recordsOf
-  records-there u e = rw (a .is, e, columns-read s p a, a .places)
+    -- not refused: what its records reply
+    pub records-there : recordsOf s ≡ accepted (recordsWith (calledColumn (p .settings)) (columnsAt s (p .columns) (p .count)))
+    unfolding recordsOf
+    records-there =
+        let columns : columnsAt s (p .columns) (p .count) ≡ a .judged .file .columns = columns-read s p (judged-at s p n flag a) in
+        let settings : p .settings ≡ a .judged .file .settings = ap (λ (q : Places). q .settings) (a .places) in
+        rw (a .is, columns, settings)
 
 pub accepted-reply : (s out t : List ℕ) (r : Listing) (o : List ℕ) → recordsOf s ≡ accepted t → Replied out (roomFor out t) r o → Replied out (recordsIn s out) r o
 unfolding recordsIn

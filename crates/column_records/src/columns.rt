@@ -3,46 +3,31 @@ ghost use mathlib.Core.Path.{_≡_};
 ghost use Prim.Native.Nat.{_-_, _<_};
 ghost use lib.ListN.{length};
 ghost use Rattle.refusals.specs.Refusals.{numberIn};
+ghost use Rattle.string_set.specs.Readers.{longestFile};
 ghost use Rattle.unanimous_shortcut.specs.Unanimous.{tablesOf};
 ghost use Rattle.base_builder.specs.Builder.{total as totalOf};
 ghost use Rattle.lent_text.specs.Printed.{Printed};
-ghost use Rattle.column_file.specs.Reading.{readFile};
-ghost use Rattle.column_file.specs.Places.{columnsAt, readingOf};
+ghost use Rattle.column_file.specs.Places.{columnsAt};
 ghost use Rattle.column_calls.specs.Columns.{calledColumn};
 ghost use Rattle.column_calls.specs.Tables.{columnCallWith};
 ghost use Rattle.column_listing.specs.Answers.{roomFor, listingAnswer, listingBuffer, listingNumber};
-ghost use Rattle.column_records.specs.Records.{fourBytes, recordOf, recordsWith, recordsIn};
+ghost use Rattle.column_records.specs.Records.{recordOf, recordsWith, recordsIn};
 use base_builder::ConsensusBaseBuilder;
 use base_builder::total;
 use column_calls::ColumnCall;
 use column_calls::call_column;
 use column_file::ColumnPlace;
 use column_file::Places;
-use column_file::Reading;
 use column_file::column_at;
 use column_listing::Listing;
+use judged_file::Judgement;
+use judged_file::judge;
 use lent_text::put_byte;
+use lent_text::put_four;
 use observation_windows::windows;
 use rate_tables::AdjustedProbabilityTables;
 use refusals::Refusal;
-use simple_umi::FlaggedAnswer;
-use simple_umi::SimpleUmiConsensusCaller;
-
-// A number as four bytes, the low byte first.
-fn put_four(out: &mut [u8], at: usize, n: u64) -> usize
-    ensures { λ r. ⌜ Printed (now (out .entry)) at (fourBytes n) (now (out .exit)) r ⌝ }
-{
-    let a = put_byte(out, at, (n % 256) as u8);
-    let b = put_byte(out, a, (n / 256 % 256) as u8);
-    let c = put_byte(out, b, (n / 65536 % 256) as u8);
-    put_byte(out, c, (n / 16777216 % 256) as u8)
-}
-
-fn wide(n: u32) -> u64
-    ensures { λ r. ⌜ r ≡ n ⌝ }
-{
-    n as u64
-}
+use widths::u32_as_u64;
 
 // How many of n observations were not counted.
 fn ignored(n: u64, counts: [u32; 4]) -> u64
@@ -67,10 +52,10 @@ fn put_record(out: &mut [u8], at: usize, called: ColumnCall, depth: u64, n: u64)
     let other = put_byte(out, zero, 0);
     let depths = put_byte(out, other, 0);
     let a = put_four(out, depths, depth);
-    let c = put_four(out, a, wide(counts[0]));
-    let g = put_four(out, c, wide(counts[1]));
-    let t = put_four(out, g, wide(counts[2]));
-    let rest = put_four(out, t, wide(counts[3]));
+    let c = put_four(out, a, u32_as_u64(counts[0]));
+    let g = put_four(out, c, u32_as_u64(counts[1]));
+    let t = put_four(out, g, u32_as_u64(counts[2]));
+    let rest = put_four(out, t, u32_as_u64(counts[3]));
     put_four(out, rest, ignored(n, counts))
 }
 
@@ -107,7 +92,7 @@ fn put_records(
 
 // The records, where they fit: how long they are is known before the first.
 fn write_records(file: &[u8], places: Places, out: &mut [u8]) -> Listing
-    requires { ⌜ (places .count < 65536) × (length (columnsAt (now file) (places .columns) (places .count)) ≡ places .count) ⌝ }
+    requires { ⌜ (places .count < longestFile) × (length (columnsAt (now file) (places .columns) (places .count)) ≡ places .count) ⌝ }
     ensures reply { λ r. ⌜ r ≡ listingAnswer (roomFor (now (out .entry)) (recordsWith (calledColumn (places .settings)) (columnsAt (now (file .entry)) (places .columns) (places .count)))) ⌝ }
     ensures lent { λ _. ⌜ now (out .exit) ≡ listingBuffer (now (out .entry)) (roomFor (now (out .entry)) (recordsWith (calledColumn (places .settings)) (columnsAt (now (file .entry)) (places .columns) (places .count)))) ⌝ }
 {
@@ -139,22 +124,6 @@ fn write_records(file: &[u8], places: Places, out: &mut [u8]) -> Listing
     ))
 }
 
-// Of a file that is read: 7 to 9 by its strings. No consensus has more than 255 bytes.
-fn write_accepted(file: &[u8], places: Places, out: &mut [u8]) -> Listing
-    requires { ⌜ readingOf (readFile (now file)) ≡ Reading.Accepted places ⌝ }
-    ensures reply { λ r. ⌜ r ≡ listingAnswer (recordsIn (now (file .entry)) (now (out .entry))) ⌝ }
-    ensures lent { λ _. ⌜ now (out .exit) ≡ listingBuffer (now (out .entry)) (recordsIn (now (file .entry)) (now (out .entry))) ⌝ }
-{
-    let strings = places.strings;
-    let mut text = [0u8; 255];
-    let consensus = SimpleUmiConsensusCaller::default().consensus(&file[strings..], &mut text);
-    let answer = consensus.answer;
-    match answer {
-        FlaggedAnswer::Refused(refusal) => Listing::Refused(refusal),
-        FlaggedAnswer::Given(_, _) => write_records(file, places, out),
-    }
-}
-
 // The records of a file's columns and how long they are, or the number by which the file is refused: 10
 // where the buffer is too short. A refusal leaves the buffer as it is.
 pub fn records(file: &[u8], out: &mut [u8]) -> Listing
@@ -162,9 +131,9 @@ pub fn records(file: &[u8], out: &mut [u8]) -> Listing
     ensures lent { λ _. ⌜ now (out .exit) ≡ listingBuffer (now (out .entry)) (recordsIn (now (file .entry)) (now (out .entry))) ⌝ }
     ensures number { λ r. ⌜ listingNumber r ≡ numberIn (recordsIn (now (file .entry)) (now (out .entry))) ⌝ }
 {
-    let reading = column_file::read(file);
-    match reading {
-        Reading::Refused(refusal) => Listing::Refused(refusal),
-        Reading::Accepted(places) => write_accepted(file, places, out),
+    let judgement = judge(file).judgement;
+    match judgement {
+        Judgement::Refused(refusal) => Listing::Refused(refusal),
+        Judgement::Accepted(places, _, _) => write_records(file, places, out),
     }
 }

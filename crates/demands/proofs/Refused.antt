@@ -8,10 +8,12 @@ use Rattle.refusals.specs.declared.Refusal.{Refusal}
 use Rattle.refusals.specs.declared.Refusal.the-variants.{BufferTooShort}
 use Rattle.refusals.specs.declared.Verdict.the-variants.{Sound, Refused}
 use Rattle.refusals.specs.Result.{Result, refused, accepted, andThen}
+use Rattle.string_set.specs.Readers.{longestFile}
 use Rattle.string_set.specs.StringSet.{readSet}
 use Rattle.simple_umi.specs.Verdicts.{consensusVerdict}
 use Rattle.simple_umi.specs.Consensus.{defaultCaller, found}
 use Rattle.column_file.specs.Reading.{File, readFile}
+use Rattle.judged_file.specs.Judged.{judgeFile}
 use Rattle.listing_lines.specs.Lines.{textOf}
 use Rattle.column_listing.specs.Listing.{linesOf, listed, printed, listingOf}
 use Rattle.column_listing.specs.Answers.{roomFor, listedIn}
@@ -20,9 +22,9 @@ use Rattle.demands.specs.Refused.{SetConditions, InTurn, ListingConditio
 pub set-conditions : (set : List ℕ) → SetConditions set
 unfolding readSet
 set-conditions set = record {
-  too-long = λ h. rw (lt-ltb 65536 (length set) h);
-  cut-off = λ h e. rw (le-ltb 65536 (length set) h, e);
-  accepted-else = λ h l e. rw (le-ltb 65536 (length set) h, e);
+  too-long = λ h. rw (lt-ltb longestFile (length set) h);
+  cut-off = λ h e. rw (le-ltb longestFile (length set) h, e);
+  accepted-else = λ h l e. rw (le-ltb longestFile (length set) h, e);
 }
 
 -- of any way of judging, and of a room that is asked last
@@ -41,16 +43,16 @@ in-turn judge text set out room short enough = record {
 
 module _ (s : List ℕ) where
   listed-refused : (r : Refusal) → readFile s ≡ refused r → listed s ≡ refused r
-  unfolding listed
+  unfolding listed judgeFile
   listed-refused r e = rw e
 
   strings-refused : (f : File) (r : Refusal) → readFile s ≡ accepted f → consensusVerdict (f .strings) ≡ Refused r → listed s ≡ refused r
-  unfolding listed
+  unfolding listed judgeFile
   strings-refused f r e v = rw (e, v)
 
   listed-text : (f : File) → readFile s ≡ accepted f → consensusVerdict (f .strings) ≡ Sound
       → listed s ≡ accepted (textOf (linesOf f (found defaultCaller (f .strings))))
-  unfolding listed
+  unfolding listed judgeFile
   listed-text f e v = rw (e, v)
 
 -- a text and the room for it

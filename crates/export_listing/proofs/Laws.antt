@@ -8,14 +8,15 @@ use lib.ListN.{length}
 use Rattle.words.proofs.Cases.{choice}
 use Rattle.refusals.specs.declared.Refusal.the-variants.{BufferTooShort}
 use Rattle.refusals.specs.Result.{Result, refused, accepted, andThen}
-use Rattle.simple_umi.specs.Consensus.{Found, defaultCaller, consensusOf}
 use Rattle.column_file.specs.Reading.{File, readFile}
+use Rattle.column_file.proofs.Files.{two-each, columns-inside, file-size}
+use Rattle.judged_file.specs.Judged.{Judged, judgeFile}
+use Rattle.judged_file.proofs.Judged.{judged-parts}
 use Rattle.column_calls.specs.Columns.{calledColumn}
 use Rattle.column_listing.specs.declared.listing.Listing.{Listing}
 use Rattle.column_listing.specs.declared.listing.Listing.the-variants as listing
 use Rattle.column_listing.specs.Listing.{listed, printed, listingOf}
 use Rattle.column_listing.specs.Answers.{roomFor, listedIn, listingAnswer}
-use Rattle.column_listing.proofs.Files.{two-each, columns-inside, file-size}
 use Rattle.column_listing_laws.proofs.Longest.{fits}
 use Rattle.column_records.specs.Records.{recordsWith, recordsOf, recordsIn}
 use Rattle.column_records.proofs.RecordLaws.{records-length}
@@ -56,15 +57,10 @@ records-few : (s : List ℕ) (f : File) → readFile s ≡ accepted f → length
 records-few s f e =
     omega (arith, records-length (calledColumn (f .settings)) (f .columns), two-each (f .columns), columns-inside s f e, file-size s f e)
 
-by-strings : (t : List ℕ) → length t ≤ 2400000 → (v : Result Found) → Few (andThen v (λ u. accepted t))
-by-strings t h (refused r) = tt
-by-strings t h (accepted u) = h
-
-by-file : (s : List ℕ) (v : Result File) → readFile s ≡ v
-    → Few (andThen v (λ f. andThen (consensusOf defaultCaller (f .strings)) (λ u. accepted (recordsWith (calledColumn (f .settings)) (f .columns)))))
-by-file s (refused r) e = tt
-by-file s (accepted f) e = by-strings _ (records-few s f e) (consensusOf defaultCaller (f .strings))
+by-judged : (s : List ℕ) (v : Result Judged) → judgeFile s ≡ v → Few (andThen v (λ j. accepted (recordsWith (calledColumn (j .file .settings)) (j .file .columns))))
+by-judged s (refused r) e = tt
+by-judged s (accepted j) e = records-few s (j .file) (judged-parts s j e .0)
 
 pub records-short : (s out : List ℕ) (g : Listing) → g ≡ listingAnswer (recordsIn s out) → Short g
 unfolding recordsIn recordsOf
-records-short s out g e = subst Short (sym e) (in-room out (recordsOf s) (by-file s (readFile s) refl))
+records-short s out g e = subst Short (sym e) (in-room out (recordsOf s) (by-judged s (judgeFile s) refl))

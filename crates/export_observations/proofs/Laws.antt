@@ -1,22 +1,21 @@
 -- The counts of a builder by their places, and the bytes that they are. Assumes nothing.
 use mathlib.Core.Path.{_≡_, refl, sym, _∙_, ap}
 use mathlib.Core.List.{List, [], _∷_, _++_}
-use Prim.Native.Nat.{ℕ, suc, _+_, _*_, _/_, _%_, _≤_, _<_}
+use Prim.Native.Nat.{ℕ, _+_, _<_}
 use native.Mathlib.Numerals.{add-one}
 use native.Mathlib.Omega.{arith}
 use borrow.Author.Tests.{eq-eqb, ne-eqb}
-use lib.ListN.{length, getD, set, drop, length-append, List·getD-append}
-use lib.Seq.{sets, drop-cons, getD-append-add}
+use lib.ListN.{length, getD, length-append, List·getD-append}
+use lib.Seq.{getD-append-add}
 use Rattle.words.specs.Lists.{listed}
 use Rattle.words.proofs.Listed.{listed-length, level-at}
 use Rattle.tie_rules.specs.Lanes.{lanes, counted}
 use Rattle.base_builder.specs.declared.builder.ConsensusBaseBuilder.{ConsensusBaseBuilder}
 use Rattle.base_builder.specs.Builder.{contributionsOf, observationsForBase}
-use Rattle.lent_bytes.proofs.Buffer.{sets-append}
-use Rattle.export_reports.specs.Bytes.{bytesOf}
+use Rattle.lent_bytes.specs.Bytes.{joined, fourBytes}
+use Rattle.lent_bytes.proofs.Numbers.{fours-length}
 use Rattle.export_reports.specs.State.{builderOf}
-use Rattle.export_reports.proofs.Puts.{bytes-length}
-use Rattle.export_observations.specs.Observations.{fourBytesEach, observationCounts, observationBytes}
+use Rattle.export_observations.specs.Observations.{observationCounts, observationBytes}
 
 -- the three parts of the counts
 module _ (b : ConsensusBaseBuilder) where
@@ -42,34 +41,10 @@ pub counts-length : (pre : ℕ) (s : List ℕ) → length (observationCounts (bu
 unfolding observationCounts builderOf lanes
 counts-length pre s = simp (length-append, listed-length)
 
--- four bytes each
-pub fours-length : (ns : List ℕ) → length (fourBytesEach ns) ≡ 4 * length ns
-unfolding fourBytesEach
-fours-length [] = refl
-fours-length (n ∷ ns) = rw (length-append) (omega (arith, bytes-length 4 n, fours-length ns))
-
--- one number put, and then the others
-pub fours-more : (out ns : List ℕ) (j : ℕ) → j < length ns → sets (sets out (4 * j) (bytesOf 4 (getD ns j 0))) (4 * (j + 1)) (fourBytesEach (drop (j + 1) ns)) ≡ sets out (4 * j) (fourBytesEach (drop j ns))
-unfolding fourBytesEach
-fours-more out ns j h =
-    let n = getD ns j 0 in
-    let e : 4 * (j + 1) ≡ 4 * j + length (bytesOf 4 n) = omega (arith, bytes-length 4 n) in
-    rw (e, add-one j, drop-cons ns j 0 h) (sets-append out (4 * j) (bytesOf 4 n) (fourBytesEach (drop (suc j) ns)))
-
--- a number's four bytes, one by one
-pub four-put : (out : List ℕ) (at n : ℕ)
-    → set (set (set (set out at (n % 256)) (at + 1) (n / 256 % 256)) (at + 2) (n / 256 / 256 % 256)) (at + 3) (n / 256 / 256 / 256 % 256) ≡ sets out at (bytesOf 4 n)
-unfolding bytesOf
-four-put out at n =
-    let one : at + 1 ≡ suc at = omega arith in
-    let two : at + 2 ≡ suc (suc at) = omega arith in
-    let three : at + 3 ≡ suc (suc (suc at)) = omega arith in
-    rw (one, two, three)
-
 -- the bytes of a state: 1,044 where it has 80, and else none
 module _ (s : List ℕ) where
   abbrev pub asked : List ℕ
-  asked = fourBytesEach (observationCounts (builderOf 0 s))
+  asked = joined fourBytes (observationCounts (builderOf 0 s))
 
   pub asked-length : length asked ≡ 1044
   asked-length = omega (arith, fours-length (observationCounts (builderOf 0 s)), counts-length 0 s)

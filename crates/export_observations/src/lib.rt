@@ -1,15 +1,17 @@
 // What a builder of 80 given bytes has counted, by its three public functions that say so: what a driver
 // in C or Rust compares.
 ghost use mathlib.Core.Path.{_≡_};
-ghost use Prim.Native.Nat.{_+_, _≤_, _<_};
+ghost use Prim.Native.Nat.{_<_};
 ghost use lib.ListN.{length, getD};
-ghost use lib.Seq.{sets};
 ghost use Rattle.lent_bytes.specs.Buffer.{lengthWritten, written};
-ghost use Rattle.export_reports.specs.Bytes.{bytesOf};
-ghost use Rattle.export_observations.specs.Observations.{fourBytesEach, observationCounts, observationBytes};
+ghost use Rattle.lent_bytes.specs.Bytes.{joined, fourBytes};
+ghost use Rattle.lent_text.specs.Printed.{Printed};
+ghost use Rattle.export_observations.specs.Observations.{observationCounts, observationBytes};
 use base_builder::ConsensusBaseBuilder;
 use export_reports::builder_of;
+use lent_text::put_four;
 use phred::PhredScore;
+use widths::u32_as_u64;
 
 // Number j of the whole.
 fn count_at(builder: ConsensusBaseBuilder, j: usize) -> u32
@@ -26,29 +28,17 @@ fn count_at(builder: ConsensusBaseBuilder, j: usize) -> u32
     all[j - 257]
 }
 
-// A number as four bytes, the low byte first.
-fn put_four(out: &mut [u8], at: usize, n: u32)
-    requires { ⌜ at + 4 ≤ length (now out) ⌝ }
-    ensures { λ _. ⌜ now (out .exit) ≡ sets (now (out .entry)) at (bytesOf 4 n) ⌝ }
+fn put_counts(out: &mut [u8], builder: ConsensusBaseBuilder) -> usize
+    requires { ⌜ length (observationCounts builder) ≡ 261 ⌝ }
+    ensures { λ r. ⌜ Printed (now (out .entry)) 0 (joined fourBytes (observationCounts builder)) (now (out .exit)) r ⌝ }
 {
-    let second = n / 256;
-    let third = second / 256;
-    let fourth = third / 256;
-    out[at] = (n % 256) as u8;
-    out[at + 1] = (second % 256) as u8;
-    out[at + 2] = (third % 256) as u8;
-    out[at + 3] = (fourth % 256) as u8;
-}
-
-fn put_counts(out: &mut [u8], builder: ConsensusBaseBuilder)
-    requires { ⌜ (length (observationCounts builder) ≡ 261) × (1044 ≤ length (now out)) ⌝ }
-    ensures { λ _. ⌜ now (out .exit) ≡ sets (now (out .entry)) 0 (fourBytesEach (observationCounts builder)) ⌝ }
-{
+    let mut at = 0;
     let mut j = 0;
     while j < 261 {
-        put_four(out, 4 * j, count_at(builder, j));
+        at = put_four(out, at, u32_as_u64(count_at(builder, j)));
         j += 1;
     }
+    at
 }
 
 // 1,044 bytes and as reply their number; or 0, and nothing written, where the state is not 80 bytes or

@@ -13,11 +13,11 @@ use Rattle.tie_rules.specs.Lanes.{lane, counted}
 use Rattle.base_builder.specs.declared.builder.ConsensusBaseBuilder.{ConsensusBaseBuilder}
 use Rattle.base_builder.specs.Calls.{unanimousOf, multibaseOf}
 use Rattle.export_scripts.specs.declared.script.Progress.{Progress}
-use Rattle.export_reports.specs.Bytes.{bytesOf}
+use Rattle.lent_bytes.specs.Bytes.{numberBytes}
 use Rattle.export_scripts.specs.Script.{Item, event, question, questions, passed}
 use Rattle.export_reports.specs.Report.{eachLane, patternsOf, countsOf, builderBytes, replyBytes, callsBytes, reportOf}
 use Rattle.export_reports.specs.Runs.{said, reports}
-use Rattle.export_reports.proofs.Puts.{bytes-length}
+use Rattle.lent_bytes.proofs.Numbers.{bytes-length}
 
 -- four parts of one length
 pub each-length : (f : ℕ → List ℕ) (n : ℕ) → ((i : ℕ) → length (f i) ≡ n) → length (eachLane f) ≡ 4 * n
@@ -25,10 +25,10 @@ unfolding eachLane
 each-length f n h = simp (length-append) (omega (arith, h 0, h 1, h 2, h 3))
 
 pub patterns-length : (xs : List Float) → length (patternsOf xs) ≡ 32
-patterns-length xs = each-length (λ i. bytesOf 8 (toBits binary64 (lane xs i))) 8 (λ i. bytes-length 8 (toBits binary64 (lane xs i)))
+patterns-length xs = each-length (λ i. numberBytes 8 (toBits binary64 (lane xs i))) 8 (λ i. bytes-length 8 (toBits binary64 (lane xs i)))
 
 pub counts-length : (ns : List ℕ) → length (countsOf ns) ≡ 16
-counts-length ns = each-length (λ i. bytesOf 4 (counted ns i)) 4 (λ i. bytes-length 4 (counted ns i))
+counts-length ns = each-length (λ i. numberBytes 4 (counted ns i)) 4 (λ i. bytes-length 4 (counted ns i))
 
 pub builder-length : (b : ConsensusBaseBuilder) → length (builderBytes b) ≡ 80
 unfolding builderBytes

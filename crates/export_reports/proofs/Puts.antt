@@ -8,7 +8,8 @@ use native.Mathlib.Omega.{arith}
 use lib.ListN.{length, set, length-append}
 use lib.Seq.{sets, length-sets}
 use Rattle.lent_bytes.proofs.Buffer.{sets-append}
-use Rattle.export_reports.specs.Bytes.{bytesOf, Put}
+use Rattle.lent_bytes.specs.Bytes.{numberBytes}
+use Rattle.export_reports.specs.Bytes.{Put}
 
 -- one put, and then another
 pub put-then : {o o1 o2 t u : List ℕ} {a w1 w2 : ℕ} → Put o a t o1 w1 → Put o1 w1 u o2 w2 → Put o a (t ++ u) o2 w2
@@ -30,21 +31,15 @@ put-before {o} {o1} {t} {a} {w1} u p = ap (λ (l : List ℕ). sets l w1 u) (p .b
 pub put-length : {o o1 t : List ℕ} {a w1 : ℕ} → Put o a t o1 w1 → length o1 ≡ length o
 put-length {o} {o1} {t} {a} {w1} p = ap length (p .bytes) ∙ length-sets o a t
 
--- a number has as many bytes as it is given
-pub bytes-length : (n x : ℕ) → length (bytesOf n x) ≡ n
-unfolding bytesOf
-bytes-length zero x = refl
-bytes-length (suc n) x = ap suc (bytes-length n (x / 256))
-
 -- its low byte is put first
-pub bytes-more : (o : List ℕ) (w n x : ℕ) → 0 < n → sets (set o w (x % 256)) (w + 1) (bytesOf (n - 1) (x / 256)) ≡ sets o w (bytesOf n x)
-unfolding bytesOf
+pub bytes-more : (o : List ℕ) (w n x : ℕ) → 0 < n → sets (set o w (x % 256)) (w + 1) (numberBytes (n - 1) (x / 256)) ≡ sets o w (numberBytes n x)
+unfolding numberBytes
 bytes-more o w zero x h = absurd (omega arith)
 bytes-more o w (suc n) x h =
     let e : suc n - 1 ≡ n = omega arith in
     rw (e, add-one w)
 
-pub bytes-none : (o : List ℕ) (w n x : ℕ) → n ≤ 0 → sets o w (bytesOf n x) ≡ o
-unfolding bytesOf
+pub bytes-none : (o : List ℕ) (w n x : ℕ) → n ≤ 0 → sets o w (numberBytes n x) ≡ o
+unfolding numberBytes
 bytes-none o w zero x h = refl
 bytes-none o w (suc n) x h = absurd (omega arith)

@@ -10,7 +10,7 @@ use Rattle.lane_calls.specs.declared.call.Reply.the-variants.{Replied, Deferred
 use Rattle.base_builder.specs.declared.builder.ConsensusBaseBuilder.{ConsensusBaseBuilder}
 use Rattle.base_builder.specs.Calls.{unanimousOf, multibaseOf, callFullOf, callOf}
 use Rattle.export_scripts.specs.declared.script.Progress.{Progress}
-use Rattle.export_reports.specs.Bytes.{bytesOf}
+use Rattle.lent_bytes.specs.Bytes.{numberBytes}
 
 -- what f gives at the lanes 0 to 3, one after another
 unfoldable pub eachLane : (ℕ → List ℕ) → List ℕ
@@ -18,11 +18,11 @@ eachLane f = f 0 ++ f 1 ++ f 2 ++ f 3
 
 -- four numbers by their bit patterns of 8 bytes, a NaN's 0x7ff8000000000000
 abbrev pub patternsOf : List Float → List ℕ
-patternsOf xs = eachLane (λ i. bytesOf 8 (toBits binary64 (lane xs i)))
+patternsOf xs = eachLane (λ i. numberBytes 8 (toBits binary64 (lane xs i)))
 
 -- four counts of 4 bytes
 abbrev pub countsOf : List ℕ → List ℕ
-countsOf ns = eachLane (λ i. bytesOf 4 (counted ns i))
+countsOf ns = eachLane (λ i. numberBytes 4 (counted ns i))
 
 -- a builder in 80 bytes: likelihoods, compensations, counts
 unfoldable pub builderBytes : ConsensusBaseBuilder → List ℕ

@@ -2,19 +2,15 @@
 use Prim.Native.Nat.{ℕ, _+_, _*_}
 use mathlib.Core.List.{List, []}
 use lib.Dec.{eqb}
-use lib.ListN.{length, take, drop}
+use lib.ListN.{length}
 use Rattle.float.specs.Ops.{bits}
 use Rattle.words.specs.Choice.{if_then_else_}
+use Rattle.lent_bytes.specs.Bytes.{numberAt}
 use Rattle.phred.specs.Phred.{phredToLnErrorProb}
 use Rattle.tie_rules.specs.declared.tie_rule.TieRule.the-variants.{FgbioCompat}
 use Rattle.tie_rules.specs.Lanes.{lanes}
 use Rattle.base_builder.specs.declared.builder.ConsensusBaseBuilder.{ConsensusBaseBuilder}
-use Rattle.export_reports.specs.Bytes.{numberOf}
 use Rattle.export_reports.specs.Runs.{scriptBytes}
-
--- the number of the n bytes at a place; a byte that is missing counts as 0
-unfoldable pub numberAt : List ℕ → ℕ → ℕ → ℕ
-numberAt s n at = numberOf (take n (drop at s))
 
 -- the builder whose likelihoods, compensations and counts stand in that order, at a pre-UMI rate
 unfoldable pub builderOf : ℕ → List ℕ → ConsensusBaseBuilder

@@ -3,7 +3,8 @@ ghost use mathlib.Core.Path.{_≡_};
 ghost use mathlib.Core.List.{[], _∷_};
 ghost use Prim.Native.Nat.{_+_, _≤_, _<_};
 ghost use lib.ListN.{length};
-ghost use Rattle.export_reports.specs.Bytes.{bytesOf, Put};
+ghost use Rattle.lent_bytes.specs.Bytes.{numberBytes};
+ghost use Rattle.export_reports.specs.Bytes.{Put};
 
 pub(crate) fn put_byte(out: &mut [u8], at: usize, b: u8) -> usize
     requires { ⌜ at < length (now out) ⌝ }
@@ -16,7 +17,7 @@ pub(crate) fn put_byte(out: &mut [u8], at: usize, b: u8) -> usize
 // A number as so many bytes, the low byte first.
 pub(crate) fn put_number(out: &mut [u8], at: usize, n: u64, width: usize) -> usize
     requires { ⌜ at + width ≤ length (now out) ⌝ }
-    ensures { λ r. ⌜ Put (now (out .entry)) at (bytesOf width n) (now (out .exit)) r ⌝ }
+    ensures { λ r. ⌜ Put (now (out .entry)) at (numberBytes width n) (now (out .exit)) r ⌝ }
 {
     let mut rest = n;
     let mut left = width;
@@ -32,7 +33,7 @@ pub(crate) fn put_number(out: &mut [u8], at: usize, n: u64, width: usize) -> usi
 
 // A number in 8 bytes.
 pub fn number_bytes(n: u64) -> [u8; 8]
-    ensures { λ r. ⌜ r ≡ bytesOf 8 n ⌝ }
+    ensures { λ r. ⌜ r ≡ numberBytes 8 n ⌝ }
 {
     let mut bytes = [0u8; 8];
     put_number(&mut bytes, 0, n, 8);

@@ -3,23 +3,16 @@ ghost use mathlib.Core.Path.{_≡_};
 ghost use Prim.Native.Nat.{_+_, _*_, _^_, _≤_, _<_};
 ghost use Rattle.float.specs.Ops.{bits};
 ghost use Rattle.tie_rules.specs.Lanes.{lanes};
-ghost use Rattle.words.specs.Lists.{byteAt};
 ghost use Rattle.lent_bytes.specs.Buffer.{lengthWritten, written};
-ghost use Rattle.export_reports.specs.State.{numberAt, builderOf, builderScriptBytes};
+ghost use Rattle.lent_bytes.specs.Bytes.{numberAt};
+ghost use Rattle.export_reports.specs.State.{builderOf, builderScriptBytes};
 use crate::runs::run;
 use base_builder::ConsensusBaseBuilder;
 use export_ways::Way;
+use lent_bytes::byte_at;
+use lent_bytes::four_at;
 use phred::PhredScore;
 use tie_rules::TieRule;
-
-fn byte_at(state: &[u8], at: usize) -> u64
-    ensures { λ r. ⌜ (r ≡ byteAt (now (state .entry)) at) × (r < 256) ⌝ }
-{
-    if at < state.len() {
-        return state[at] as u64;
-    }
-    0
-}
 
 // The number of n bytes at a place, the low byte first.
 fn number_at(state: &[u8], n: usize, at: usize) -> u64
@@ -49,10 +42,9 @@ fn numbers_at(state: &[u8], at: usize) -> [f64; 4]
 }
 
 fn count_at(state: &[u8], at: usize) -> u32
-    requires { ⌜ at + 4 ≤ 80 ⌝ }
     ensures { λ r. ⌜ r ≡ numberAt (now (state .entry)) 4 at ⌝ }
 {
-    number_at(state, 4, at) as u32
+    four_at(state, at) as u32
 }
 
 // The builder of the first 80 bytes; those that are missing are 0.

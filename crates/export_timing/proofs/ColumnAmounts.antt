@@ -17,7 +17,7 @@ use Rattle.column_calls.specs.Columns.{calledColumn}
 use Rattle.column_calls.specs.Tables.{observationsIn}
 use Rattle.column_calls.proofs.Bytes.{part-observations}
 use Rattle.column_calls.proofs.Walk.{columns-more, columns-past, columns-none}
-use Rattle.column_calls.proofs.Readings.{FileAt, columns-read}
+use Rattle.column_file.proofs.Readings.{FileAt, columns-read}
 use Rattle.export_timing.specs.Amounts.{amountOf}
 use Rattle.export_timing.specs.Columns.{columnAmounts, callsOf, amountsWith}
 

@@ -3,17 +3,18 @@ use mathlib.Core.Path.{_≡_, refl, sym, _∙_, ap, subst}
 use mathlib.Core.List.{List, [], _∷_, _++_, append-assoc}
 use Prim.Native.Nat.{ℕ, zero, suc, _+_, _-_, _≤_, _<_}
 use native.Mathlib.Omega.{arith}
-use borrow.Author.Tests.{le-leb, lt-leb, leb-true, leb-false, ltb-true, ltb-false}
-use lib.Dec.{ltb, leb}
+use borrow.Author.Tests.{le-leb, lt-leb, leb-true, leb-false}
+use lib.Dec.{leb}
 use lib.ListN.{length, take, drop, length-drop, drop-of-length-le}
 use Rattle.words.proofs.Cases.{test, choice}
+use Rattle.lent_bytes.specs.Bytes.{numberAt}
 use Rattle.string_set.specs.Readers.{Taken, taken, short, next}
-use Rattle.string_set.proofs.Readers.{front-at, front-end, word-at, word-end, prepend}
+use Rattle.string_set.proofs.Readers.{front-at, front-end, prepend}
 use Rattle.simple_umi.specs.declared.caller.SimpleConsensusCaller.{SimpleConsensusCaller}
 use Rattle.export_umi.specs.declared.asked.Question.{Question}
 use Rattle.export_umi_sets.specs.declared.places.SetPlace.{SetPlace}
 use Rattle.export_umi_sets.specs.declared.places.SetPlace.the-variants as place
-use Rattle.export_umi_sets.specs.Reading.{fourBytes, sizedSet, setsWithin}
+use Rattle.export_umi_sets.specs.Reading.{setSize, sizedSet, setsWithin}
 use Rattle.export_umi_sets.specs.Answers.{afterSet, setBytes, setsBytes}
 use Rattle.export_umi_sets.specs.Places.{sizeAt, setAt}
 
@@ -47,19 +48,13 @@ module _ (s : List ℕ) (at : ℕ) (r : SetPlace) (e : r ≡ setAt s at) where
 -- ---- a set read there
 
 module _ (s : List ℕ) (at : ℕ) where
-  four-at : at + 4 ≤ length s → fourBytes (drop at s) ≡ taken (sizeAt s at) (drop (at + 4) s)
-  unfolding fourBytes
-  four-at h =
-      let e : at + 2 + 1 ≡ at + 3 = omega arith in
-      let f : at + 2 + 2 ≡ at + 4 = omega arith in
-      rw (word-at s at (omega arith), word-at s (at + 2) (omega arith), e, f)
+  four-at : at + 4 ≤ length s → setSize (drop at s) ≡ taken (sizeAt s at) (drop (at + 4) s)
+  unfolding setSize numberAt
+  four-at h = rw (front-at s at 4 h)
 
-  four-end : length s < at + 4 → fourBytes (drop at s) ≡ short
-  unfolding fourBytes
-  four-end h =
-      test (ltb (length s) (at + 2))
-      (λ t. rw (word-end s at (ltb-true (length s) (at + 2) t)))
-      (λ t. rw (word-at s at (ltb-false (length s) (at + 2) t), word-end s (at + 2) (omega arith)))
+  four-end : at ≤ length s → length s < at + 4 → setSize (drop at s) ≡ short
+  unfolding setSize
+  four-end k h = rw (front-end s at 4 k h)
 
   -- the set at the place
   abbrev pub setThere : List ℕ
@@ -74,12 +69,12 @@ module _ (s : List ℕ) (at : ℕ) where
   unfolding sizedSet
   set-read h = rw (four-at (omega arith), front-at s (at + 4) (sizeAt s at) h)
 
-  set-cut : length s < at + 4 + sizeAt s at → sizedSet (drop at s) ≡ short
+  set-cut : at ≤ length s → length s < at + 4 + sizeAt s at → sizedSet (drop at s) ≡ short
   unfolding sizedSet
-  set-cut h =
+  set-cut l h =
       test (leb (at + 4) (length s))
       (λ t. let k : at + 4 ≤ length s = leb-true (at + 4) (length s) t in rw (four-at k, front-end s (at + 4) (sizeAt s at) k h))
-      (λ t. rw (four-end (leb-false (at + 4) (length s) t)))
+      (λ t. rw (four-end l (leb-false (at + 4) (length s) t)))
 
 -- ---- the walk
 
@@ -128,7 +123,7 @@ module _ (q : Question) (c : SimpleConsensusCaller) (s : List ℕ) (at k : ℕ) 
       (prepend-twice done (setBytes q c (setThere s at)) (answered q (afterSet q c (setThere s at)) t))))
 
   pub turn-cut : at < length s → length s ≤ at + k → length s < at + 4 + sizeAt s at → prepend done (answered q c (setsWithin k (drop at s))) ≡ short
-  turn-cut h l i = rw (within-more k (drop at s) (omega arith) (left-some h), set-cut s at i)
+  turn-cut h l i = rw (within-more k (drop at s) (omega arith) (left-some h), set-cut s at (omega arith) i)
 
   pub turn-end : length s ≤ at → prepend done (answered q c (setsWithin k (drop at s))) ≡ taken (done ++ []) []
   unfolding setsBytes

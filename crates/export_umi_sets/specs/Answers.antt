@@ -4,7 +4,7 @@ use mathlib.Core.List.{List, [], _∷_, _++_}
 use lib.Dec.{eqb}
 use Rattle.words.specs.Choice.{if_then_else_}
 use Rattle.string_set.specs.Readers.{Taken, taken, short}
-use Rattle.export_reports.specs.Bytes.{bytesOf}
+use Rattle.lent_bytes.specs.Bytes.{numberBytes}
 use Rattle.export_reports.specs.Report.{builderBytes}
 use Rattle.simple_umi.specs.declared.caller.SimpleConsensusCaller.{SimpleConsensusCaller}
 use Rattle.simple_umi.specs.Consensus.{callerAt}
@@ -21,7 +21,7 @@ afterSet q c set = callerAfter c (foundBy q c set room)
 
 -- a set's answer: the code in 8 bytes, the string, none where it is refused, and the 80 bytes of the builder afterwards
 unfoldable pub setBytes : Question → SimpleConsensusCaller → List ℕ → List ℕ
-setBytes q c set = bytesOf 8 (codeBy q c set room) ++ (textIn (foundBy q c set room) ++ builderBytes (afterSet q c set .builder))
+setBytes q c set = numberBytes 8 (codeBy q c set room) ++ (textIn (foundBy q c set room) ++ builderBytes (afterSet q c set .builder))
 
 -- of sets in turn, each by the caller as the one before leaves it
 unfoldable pub setsBytes : Question → SimpleConsensusCaller → List (List ℕ) → List ℕ

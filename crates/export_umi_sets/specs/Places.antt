@@ -1,11 +1,11 @@
 -- Sets by the places of their lengths, and what a walk over them gives.
-use Prim.Native.Nat.{ℕ, _+_, _*_}
+use Prim.Native.Nat.{ℕ, _+_}
 use mathlib.Core.Path.{_≡_}
 use mathlib.Core.List.{List}
 use lib.Dec.{leb}
 use lib.ListN.{length}
 use Rattle.words.specs.Choice.{if_then_else_}
-use Rattle.words.specs.Lists.{byteAt}
+use Rattle.lent_bytes.specs.Bytes.{numberAt}
 use Rattle.lent_text.specs.Printed.{Printed}
 use Rattle.string_set.specs.Readers.{Taken, taken, short}
 use Rattle.simple_umi.specs.declared.caller.SimpleConsensusCaller.{SimpleConsensusCaller}
@@ -18,7 +18,7 @@ use Rattle.export_umi_sets.specs.Answers.{setsBytes}
 
 -- the length at a place
 abbrev pub sizeAt : List ℕ → ℕ → ℕ
-sizeAt s at = byteAt s at + 256 * byteAt s (at + 1) + 65536 * (byteAt s (at + 2) + 256 * byteAt s (at + 3))
+sizeAt s at = numberAt s 4 at
 
 -- where the set after it starts and ends
 unfoldable pub setAt : List ℕ → ℕ → SetPlace

@@ -1,16 +1,17 @@
 -- Sets one after another, each after its length.
-use Prim.Native.Nat.{ℕ, zero, suc, _+_, _*_}
+use Prim.Native.Nat.{ℕ, zero, suc}
 use mathlib.Core.List.{List, [], _∷_}
 use lib.ListN.{length}
-use Rattle.string_set.specs.Readers.{Taken, taken, short, next, word, front}
+use Rattle.lent_bytes.specs.Bytes.{numberOf}
+use Rattle.string_set.specs.Readers.{Taken, taken, short, next, front}
 
 -- a length of four bytes, the low byte first
-unfoldable pub fourBytes : List ℕ → Taken ℕ
-fourBytes r = next (word r) (λ low s. next (word s) (λ high t. taken (low + 65536 * high) t))
+unfoldable pub setSize : List ℕ → Taken ℕ
+setSize r = next (front 4 r) (λ bs s. taken (numberOf bs) s)
 
 -- a set: its length, and that many bytes
 unfoldable pub sizedSet : List ℕ → Taken (List ℕ)
-sizedSet r = next (fourBytes r) (λ n s. front n s)
+sizedSet r = next (setSize r) (λ n s. front n s)
 
 -- sets until nothing is left, at most n of them
 unfoldable pub setsWithin : ℕ → List ℕ → Taken (List (List ℕ))

@@ -3,7 +3,7 @@ ghost use mathlib.Core.Path.{_≡_};
 ghost use Prim.Native.Nat.{_≤_};
 ghost use lib.ListN.{length};
 ghost use Rattle.export_umi_sets.specs.Places.{setAt};
-use lent_bytes::wide;
+use lent_bytes::four_at;
 
 // Where a set starts and ends; or the bytes do not reach so far.
 pub enum SetPlace {
@@ -19,9 +19,7 @@ pub(crate) fn set_at(sets: &[u8], at: usize) -> SetPlace
     if sets.len() - at < 4 {
         return SetPlace::Past;
     }
-    let low = wide(sets[at]) + 256 * wide(sets[at + 1]);
-    let high = wide(sets[at + 2]) + 256 * wide(sets[at + 3]);
-    let n = low + 65536 * high;
+    let n = four_at(sets, at) as usize;
     let start = at + 4;
     if sets.len() - start < n {
         return SetPlace::Past;

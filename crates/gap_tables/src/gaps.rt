@@ -8,6 +8,7 @@ ghost use Rattle.gap_tables.specs.Gaps.{unanimousQualityFromGap, thresho
 use crate::thresholds::threshold_with;
 use phred::LogProbability;
 use phred::PhredScore;
+use widths::wide;
 
 // The gap formula.
 pub fn unanimous_quality_from_gap(gap: f64, ln_error_pre_umi: LogProbability) -> PhredScore
@@ -71,12 +72,6 @@ pub fn build_unanimous_gap_tables(error_rate_pre_umi: PhredScore) -> UnanimousGa
         cerr_min,
         cap,
     }
-}
-
-fn wide(x: u8) -> usize
-    ensures { λ r. ⌜ r ≡ x ⌝ }
-{
-    x as usize
 }
 
 fn cerr_table(thresholds: &[f64; 94], cap: usize) -> [f64; 94]

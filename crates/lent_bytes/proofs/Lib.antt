@@ -1,3 +1,5 @@
 pub mod Lists
 pub mod Buffer
 pub mod Same
+pub mod Joined
+pub mod Numbers

@@ -1,20 +1,14 @@
-// Bytes compared, and bytes put at the front of a lent buffer.
+// Bytes compared, numbers read from bytes, and bytes put at the front of a lent buffer.
 ghost use mathlib.Core.Path.{_≡_};
 ghost use mathlib.Core.List.{_++_};
 ghost use Prim.Native.Nat.{_+_, _≤_, _<_};
 ghost use lib.Dec.{leb};
 ghost use lib.ListN.{length};
 ghost use lib.Seq.{sets};
-ghost use Rattle.words.specs.Lists.{sameBytes};
+ghost use Rattle.words.specs.Lists.{byteAt, sameBytes};
 ghost use Rattle.lent_bytes.specs.Buffer.{written};
-
-// A byte as a number of the size of places.
-pub fn wide(x: u8) -> usize
-    ensures { λ r. ⌜ r ≡ x ⌝ }
-    ensures { λ r. ⌜ r < 256 ⌝ }
-{
-    x as usize
-}
+ghost use Rattle.lent_bytes.specs.Bytes.{numberAt};
+use widths::u8_as_u64;
 
 // Whether two are the same, byte by byte.
 pub fn same_bytes(a: &[u8], b: &[u8]) -> bool
@@ -31,6 +25,38 @@ pub fn same_bytes(a: &[u8], b: &[u8]) -> bool
         same += 1;
     }
     true
+}
+
+// The byte at a place, 0 where there is none.
+pub fn byte_at(bytes: &[u8], at: usize) -> u64
+    ensures { λ r. ⌜ r ≡ byteAt (now (bytes .entry)) at ⌝ }
+    ensures { λ r. ⌜ r < 256 ⌝ }
+{
+    if at < bytes.len() {
+        return u8_as_u64(bytes[at]);
+    }
+    0
+}
+
+// The number of the first four bytes, the low byte first; a byte that is missing counts as 0.
+fn front_four(bytes: &[u8]) -> u64
+    ensures { λ r. ⌜ r ≡ numberAt (now (bytes .entry)) 4 0 ⌝ }
+    ensures { λ r. ⌜ r < 4294967296 ⌝ }
+{
+    let low = byte_at(bytes, 0) + 256 * byte_at(bytes, 1);
+    let high = byte_at(bytes, 2) + 256 * byte_at(bytes, 3);
+    low + 65536 * high
+}
+
+// Of the four bytes at a place. `put_four` (lent_text) puts them there.
+pub fn four_at(bytes: &[u8], at: usize) -> u64
+    ensures number { λ r. ⌜ r ≡ numberAt (now (bytes .entry)) 4 at ⌝ }
+    ensures few { λ r. ⌜ r < 4294967296 ⌝ }
+{
+    if bytes.len() < at {
+        return 0;
+    }
+    front_four(&bytes[at..])
 }
 
 // All bytes from a place on, where they fit.

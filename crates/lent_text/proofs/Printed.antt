@@ -1,6 +1,6 @@
 -- Texts printed into a lent buffer, one after another, and what the buffer then holds. Assumes nothing.
 use mathlib.Core.Path.{_≡_, refl, sym, _∙_, ap}
-use mathlib.Core.List.{List, [], _∷_, _++_}
+use mathlib.Core.List.{List, [], _∷_, _++_, append-assoc, append-nil}
 use Prim.Native.Nat.{ℕ, suc, _+_, _≤_, min}
 use native.Mathlib.Nat.{min-eq-left}
 use native.Mathlib.Omega.{arith}
@@ -56,3 +56,13 @@ printed-as {o} {o1} {t} {u} {a} {w1} p e = rw e at p
 -- a text printed from the start of a buffer that it fits into
 pub printed-written : {o o1 t : List ℕ} {w1 : ℕ} → Printed o 0 t o1 w1 → length t ≤ length o → (w1 ≡ length t) × (o1 ≡ written t o)
 printed-written {o} {o1} {t} {w1} p h = (omega arith, p .bytes ∙ fits-written t o h)
+
+-- ---- what is printed so far and what is left
+
+-- a part more is printed
+pub one-more : (done part rest left all : List ℕ) → left ≡ part ++ rest → done ++ left ≡ all → done ++ part ++ rest ≡ all
+one-more done part rest left all e h = append-assoc done part rest ∙ ap (λ (l : List ℕ). done ++ l) (sym e) ∙ h
+
+-- nothing is left
+pub no-more : (done left all : List ℕ) → left ≡ [] → done ++ left ≡ all → done ≡ all
+no-more done left all e h = sym (append-nil done) ∙ ap (λ (l : List ℕ). done ++ l) (sym e) ∙ h

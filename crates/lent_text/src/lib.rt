@@ -1,6 +1,7 @@
-// Text printed into a lent buffer from a place on. Each function gives the next place. What lies past
+// Text and numbers printed into a lent buffer from a place on. Each function gives the next place. What lies past
 // the buffer's end is counted and not written, so that one function both measures and writes.
 ghost use mathlib.Core.List.{[], _∷_};
+ghost use Rattle.lent_bytes.specs.Bytes.{fourBytes};
 ghost use Rattle.lent_text.specs.Text.{decimal};
 ghost use Rattle.lent_text.specs.Printed.{Printed};
 
@@ -41,4 +42,17 @@ pub fn put_decimal(out: &mut [u8], at: usize, n: u64) -> usize
     }
     let place = put_decimal(out, at, n / 10);
     put_byte(out, place, 48 + (n % 10) as u8)
+}
+
+// A number in four bytes, the low byte first. `four_at` (lent_bytes) reads it.
+pub fn put_four(out: &mut [u8], at: usize, n: u64) -> usize
+    ensures { λ r. ⌜ Printed (now (out .entry)) at (fourBytes n) (now (out .exit)) r ⌝ }
+{
+    let second = n / 256;
+    let third = second / 256;
+    let fourth = third / 256;
+    let a = put_byte(out, at, (n % 256) as u8);
+    let b = put_byte(out, a, (second % 256) as u8);
+    let c = put_byte(out, b, (third % 256) as u8);
+    put_byte(out, c, (fourth % 256) as u8)
 }

@@ -65,13 +65,3 @@ module _ (called : List Observation → ColumnCall) (s : List ℕ) (at n i : ℕ
   pub lines-none : n ≤ 0 → left ≡ []
   unfolding linesWith
   lines-none h = rw (columns-none s at n h)
-
--- ---- what is printed so far and what is left
-
--- a line printed
-pub one-more : (done line rest left all : List ℕ) → left ≡ line ++ rest → done ++ left ≡ all → done ++ line ++ rest ≡ all
-one-more done line rest left all e h = append-assoc done line rest ∙ ap (λ (l : List ℕ). done ++ l) (sym e) ∙ h
-
--- nothing is left
-pub no-more : (done left all : List ℕ) → left ≡ [] → done ++ left ≡ all → done ≡ all
-no-more done left all e h = sym (append-nil done) ∙ ap (λ (l : List ℕ). done ++ l) (sym e) ∙ h

@@ -18,12 +18,8 @@ use lent_text::put_byte;
 use lent_text::put_bytes;
 use lent_text::put_decimal;
 use refusals::Refusal;
-
-fn wide(n: u32) -> u64
-    ensures { λ r. ⌜ r ≡ n ⌝ }
-{
-    n as u64
-}
+use widths::u8_as_u64;
+use widths::u32_as_u64;
 
 // A further field: a space and a number.
 fn put_field(out: &mut [u8], at: usize, n: u64) -> usize
@@ -37,10 +33,10 @@ fn put_field(out: &mut [u8], at: usize, n: u64) -> usize
 fn put_counts(out: &mut [u8], at: usize, counts: [u32; 4]) -> usize
     ensures { λ r. ⌜ Printed (now (out .entry)) at ((space ∷ decimal (counted counts 0)) ++ (space ∷ decimal (counted counts 1)) ++ (space ∷ decimal (counted counts 2)) ++ (space ∷ decimal (counted counts 3))) (now (out .exit)) r ⌝ }
 {
-    let a = put_field(out, at, wide(counts[0]));
-    let c = put_field(out, a, wide(counts[1]));
-    let g = put_field(out, c, wide(counts[2]));
-    put_field(out, g, wide(counts[3]))
+    let a = put_field(out, at, u32_as_u64(counts[0]));
+    let c = put_field(out, a, u32_as_u64(counts[1]));
+    let g = put_field(out, c, u32_as_u64(counts[2]));
+    put_field(out, g, u32_as_u64(counts[3]))
 }
 
 fn put_line(out: &mut [u8], at: usize, number: u64, called: ColumnCall, depth: u64) -> usize
@@ -53,7 +49,7 @@ fn put_line(out: &mut [u8], at: usize, number: u64, called: ColumnCall, depth: u
     let a = put_decimal(out, at, number);
     let b = put_byte(out, a, b' ');
     let c = put_byte(out, b, base);
-    let d = put_field(out, c, wide(qual.0 as u32));
+    let d = put_field(out, c, u8_as_u64(qual.0));
     let e = put_field(out, d, depth);
     let f = put_counts(out, e, counts);
     put_byte(out, f, b'\n')
@@ -140,6 +136,6 @@ pub fn put_refusal(out: &mut [u8], refusal: Refusal) -> usize
 {
     let number = refusals::number(refusal);
     let a = put_bytes(out, 0, b"refused");
-    let b = put_field(out, a, wide(number as u32));
+    let b = put_field(out, a, u8_as_u64(number));
     put_byte(out, b, b'\n')
 }

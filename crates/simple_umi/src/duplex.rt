@@ -12,10 +12,10 @@ use crate::caller::with_builder;
 use crate::group::Group;
 use crate::group::consensus_group;
 use crate::group::refused_group;
-use lent_bytes::wide;
 use lent_bytes::write_front;
 use refusals::Refusal;
 use refusals::Verdict;
+use widths::wide;
 
 // What both strands give: /B's verdict and builder with /A's flag and the text's length; and /B's flag.
 pub struct Pair {

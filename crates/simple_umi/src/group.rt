@@ -11,12 +11,12 @@ ghost use Rattle.simple_umi.specs.Answers.{roomFor};
 ghost use Rattle.simple_umi.specs.Places.{Trimmed, stringsAt, lengthsAlike, Gave};
 use crate::caller::SimpleConsensusCaller;
 use base_builder::ConsensusBaseBuilder;
-use lent_bytes::wide;
 use lent_bytes::write_front;
 use refusals::Refusal;
 use refusals::Verdict;
 use umi_family::call_family;
 use umi_verdicts::family_verdict;
+use widths::wide;
 
 // What a group gives beside the text in the buffer. Where it is refused, only the verdict means something.
 pub struct Group {

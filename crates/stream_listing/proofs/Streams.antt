@@ -10,18 +10,20 @@ use lib.Seq.{length-take-le, take-all}
 use Rattle.words.proofs.Cases.{test}
 use Rattle.lent_bytes.specs.Buffer.{lengthWritten, written}
 use Rattle.refusals.specs.declared.Refusal.the-variants.{FileTooLong}
+use Rattle.string_set.specs.Readers.{longestFile}
 use Rattle.column_file.proofs.FileRead.{file-long}
+use Rattle.judged_file.specs.Judged.{judgeFile}
 use Rattle.listing_lines.specs.Lines.{refusalLine}
 use Rattle.column_listing.specs.Listing.{listed, listingOf}
 use Rattle.stream_listing.specs.Streams.{FrontOf, onto}
 
 -- all streams that are too long have the same listing
-long-listing : (s : List ℕ) → 65536 < length s → listingOf s ≡ refusalLine FileTooLong
-unfolding listingOf listed
+long-listing : (s : List ℕ) → longestFile < length s → listingOf s ≡ refusalLine FileTooLong
+unfolding listingOf listed judgeFile
 long-listing s h = rw (file-long s h)
 
 -- a stream came in whole, or both it and what came in are too long
-pub same-listing : (stream : List ℕ) (n : ℕ) (room : List ℕ) → 65536 < length room → FrontOf stream n room → listingOf stream ≡ listingOf (take n room)
+pub same-listing : (stream : List ℕ) (n : ℕ) (room : List ℕ) → longestFile < length room → FrontOf stream n room → listingOf stream ≡ listingOf (take n room)
 same-listing stream n room h e =
     let l = length stream in
     let k = length room in

@@ -5,8 +5,8 @@ ghost use lib.ListN.{length, replicate};
 ghost use Rattle.refusals.specs.Refusals.{numberIn};
 ghost use Rattle.string_set.specs.StringSet.{readSet};
 ghost use Rattle.string_set.specs.Places.{readingOf, readingNumber, readingCount, placesAfter};
-use lent_bytes::wide;
 use refusals::Refusal;
+use widths::wide;
 
 // The most bytes that a file, a part of one or a string set may have.
 pub const LONGEST_FILE: usize = 65536;

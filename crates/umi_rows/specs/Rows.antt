@@ -22,6 +22,10 @@ rowsAt w s ps = map (λ p. take w (drop (p + 1) s)) ps
 abbrev pub bytesAt : ℕ → List ℕ → List ℕ → List ℕ
 bytesAt k s ps = map (λ p. byteAt s (p + 1 + k)) ps
 
+-- as 255 bytes: those of the first 255, and 0 where there is none
+unfoldable pub gatheredAt : ℕ → List ℕ → List ℕ → List ℕ
+gatheredAt k s ps = listed (byteAt (bytesAt k s ps)) 0 255
+
 -- the columns
 unfoldable pub columnsAt : ℕ → List ℕ → List ℕ → List (List ℕ)
 columnsAt w s ps = listed (λ k. bytesAt k s ps) 0 w

@@ -2,9 +2,8 @@
 ghost use mathlib.Core.Path.{_≡_};
 ghost use Prim.Native.Nat.{_+_};
 ghost use lib.Dec.{leb};
-ghost use lib.ListN.{length, take};
 ghost use Rattle.words.specs.Lists.{byteAt};
-ghost use Rattle.umi_rows.specs.Rows.{fitting, bytesAt};
+ghost use Rattle.umi_rows.specs.Rows.{fitting, gatheredAt};
 
 fn follow(place: usize, width: usize, size: usize) -> bool
     ensures { λ r. ⌜ r ≡ leb (place + 1 + width) size ⌝ }
@@ -52,10 +51,9 @@ fn byte_after(set: &[u8], place: usize, at: usize) -> u8
     set[place + 1 + at]
 }
 
-// The bytes that the strings, or the first 255 of them, have at one place. What stands behind them in the
-// array is free: nobody reads it.
+// The bytes that the strings, or the first 255 of them, have at one place, and 0 behind them.
 pub fn gather(set: &[u8], places: &[usize], at: usize) -> [u8; 255]
-    ensures { λ r. ⌜ take (length (now (places .entry))) r ≡ take 255 (bytesAt at (now (set .entry)) (now (places .entry))) ⌝ }
+    ensures { λ r. ⌜ r ≡ gatheredAt at (now (set .entry)) (now (places .entry)) ⌝ }
 {
     let mut column = [0u8; 255];
     let mut k = 0;

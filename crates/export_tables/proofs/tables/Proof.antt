@@ -29,9 +29,11 @@ returns c = let a = c .before .before .args in over-short (tableByte (a .pre .0)
 
 returns-2 : tie.Need-returns-2
 returns-2 c =
+    let compute = c .before .before .before .before .before .before .before .before .before .before .before .before .before .compute in
+    let build-unanimous-gap-tables = c .before .before .before .before .before .before .before .before .before .before .before .before .build-unanimous-gap-tables in
     let a = c .before .before .before .before .before .before .before .before .before .before .before .before .before .before .before .before .args in
-    all-written (a .pre .0) (a .post .0) _ _ (a .out .now) _ (c .before .before .before .before .before .before .before .before .before .before .before .before .before .compute .ensures)
-    (c .before .before .before .before .before .before .before .before .before .before .before .before .build-unanimous-gap-tables .ensures) (omega arith) (c .before .before .write .ensures)
+    all-written (a .pre .0) (a .post .0) _ _ (a .out .now) _ (compute .ensures)
+    (build-unanimous-gap-tables .ensures) (omega arith) (c .before .before .write .ensures)
 
 pub tables-spec : {M : Type 1} → statement M
 tables-spec =

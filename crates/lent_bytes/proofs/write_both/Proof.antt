@@ -42,13 +42,14 @@ put-both out a b o1 o2 e f h =
 
 returns-2 : tie.Need-returns-2
 returns-2 c =
+    let copy-at = c .before .before .before .before .before .before .copy-at in
     let start = c .before .before .before .before .before .before .before .before .before .before .before .before in
     let a = start .args .first .now in
     let b = start .args .second .now in
     let out = start .args .out .now in
     let e = length-append a b in
     let fits : length (a ++ b) ≤ length out = rw e (omega arith) in
-    (sym (le-leb _ _ fits), put-both out a b _ _ (c .before .before .before .before .before .before .copy-at .ensures) (c .before .before .copy-at2 .ensures) fits)
+    (sym (le-leb _ _ fits), put-both out a b _ _ (copy-at .ensures) (c .before .before .copy-at2 .ensures) fits)
 
 pub write-both-spec : {M : Type 1} → statement M
 write-both-spec =

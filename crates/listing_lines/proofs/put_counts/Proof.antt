@@ -16,10 +16,10 @@ whole c =
     print-then
     (print-then
     (print-then
-    (printed-as (a .put-field .ensures) (ap field (a .before .wide .ensures)))
-    (printed-as (l .put-field2 .ensures) (ap field (l .before .wide2 .ensures))))
-    (printed-as (g .put-field3 .ensures) (ap field (g .before .wide3 .ensures))))
-    (printed-as (t .put-field4 .ensures) (ap field (t .before .wide4 .ensures)))
+    (printed-as (a .put-field .ensures) (ap field (a .before .u32-as-u64 .ensures .0)))
+    (printed-as (l .put-field2 .ensures) (ap field (l .before .u32-as-u642 .ensures .0))))
+    (printed-as (g .put-field3 .ensures) (ap field (g .before .u32-as-u643 .ensures .0))))
+    (printed-as (t .put-field4 .ensures) (ap field (t .before .u32-as-u644 .ensures .0)))
 
 same-length : tie.Need-same-length
 same-length c = printed-length (whole c)

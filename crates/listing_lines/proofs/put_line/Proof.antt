@@ -13,7 +13,7 @@ whole c =
     let counts = end .before .before .before .before in
     let depth = counts .before .before .before .before in
     let quality = depth .before .before .before .before in
-    let base = quality .before .before .before .before .before .before in
+    let base = quality .before .before .before .before .before in
     let gap = base .before .before .before .before in
     let number = gap .before .before .before .before in
     let a = number .before .before .before .before .before .before .args in
@@ -21,7 +21,7 @@ whole c =
     (print-then (number .put-decimal .ensures)
     (print-then (gap .put-byte .ensures)
     (print-then (base .put-byte2 .ensures)
-    (print-then (printed-as (quality .put-field .ensures) (ap field (quality .before .wide .ensures)))
+    (print-then (printed-as (quality .put-field .ensures) (ap field (quality .before .u8-as-u64 .ensures .0)))
     (print-then (depth .put-field2 .ensures)
     (print-then (counts .put-counts .ensures) (end .put-byte3 .ensures)))))))
     (line-puts (a .number) (a .called .call) (a .depth) (a .called .counts))
@@ -36,7 +36,7 @@ pub put-line-spec : {M : Type 1} → statement M
 put-line-spec =
     tie.close
     (tie.spec
-    (λ c κs. tt) (λ c κs. tt) (λ c κs. tt) (λ c. search needs) (λ c κs. tt) (λ c κs. tt)
-    (λ c κs. tt) (λ c κs. tt) (λ c κs. tt)
+    (λ c κs. tt) (λ c κs. tt) (λ c κs. tt) (λ c κs. tt)
+    (λ c κs. tt) (λ c κs. tt) (λ c κs. tt) (λ c κs. tt)
     same-length
     returns)

@@ -6,12 +6,12 @@ use Prim.Native.Nat.{ℕ, _+_, _-_, _*_, _≤_}
 use lib.ListN.{length, take, drop}
 use Rattle.unanimous_shortcut.specs.Unanimous.{tablesOf}
 use Rattle.lent_text.specs.Printed.{Printed}
-use Rattle.lent_text.proofs.Printed.{print-then, print-none, printed-length, printed-as}
+use Rattle.lent_text.proofs.Printed.{print-then, print-none, printed-length, printed-as, one-more, no-more}
 use Rattle.column_file.specs.Places.{columnsAt}
 use Rattle.column_calls.specs.Tables.{observationsIn, columnCallWith}
 use Rattle.listing_lines.specs.Lines.{textOf}
 use Rattle.listing_lines.specs.Tables.{lineWith, linesWith}
-use Rattle.listing_lines.proofs.Lines.{column-fits, lines-more, lines-past, lines-none, one-more, no-more}
+use Rattle.listing_lines.proofs.Lines.{column-fits, lines-more, lines-past, lines-none}
 use borrow.Author.Needs.{needs}
 use Rattle.listing_lines.proofs.put_lines.Statement.{statement}
 use Rattle.listing_lines.proofs.put_lines.Tie as tie
@@ -29,8 +29,9 @@ abbrev μ-loop : tie.MeasureT-loop
 
 -- the column lies in the file
 inside : (c : tie.After-known-told Inv-loop μ-loop)
-    → c .before .next .given .0 .0 + 2 * c .before .next .given .0 .1 .0
-    ≤ length (c .before .before .before .before .before .before .before .before .args .file .now)
+    → let s = c .before .before .before .before .before .before .before .before .args .file .now in
+    let column = c .before .next .given .0 in
+    column .0 + 2 * column .1 .0 ≤ length s
 inside c =
     let l = c .before .before .before .before .before .loop in
     let a = c .before .before .before .before .before .before .before .before .args in

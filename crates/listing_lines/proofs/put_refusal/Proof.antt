@@ -15,7 +15,7 @@ whole c =
     let word = field-put .before .before .before .before .before in
     print-then (word .put-bytes .ensures)
     (print-then
-    (printed-as (field-put .put-field .ensures) (ap field (field-put .before .wide .ensures ∙ word .before .before .before .number .ensures)))
+    (printed-as (field-put .put-field .ensures) (ap field (field-put .before .u8-as-u64 .ensures .0 ∙ word .before .before .before .number .ensures)))
     (c .before .before .put-byte .ensures))
 
 same-length : tie.Need-same-length
@@ -28,6 +28,6 @@ pub put-refusal-spec : {M : Type 1} → statement M
 put-refusal-spec =
     tie.close
     (tie.spec
-    (λ c κs. tt) (λ c. refl) (λ c κs. tt) (λ c. search needs) (λ c κs. tt) (λ c κs. tt) (λ c κs. tt)
+    (λ c κs. tt) (λ c. refl) (λ c κs. tt) (λ c κs. tt) (λ c κs. tt) (λ c κs. tt)
     same-length
     returns)

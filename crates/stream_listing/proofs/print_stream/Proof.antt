@@ -4,6 +4,7 @@ use Prim.Native.Nat.{_≤_, _<_}
 use native.Mathlib.Omega.{arith}
 use borrow.Author.Needs.{needs}
 use lib.ListN.{length, take}
+use Rattle.string_set.specs.Readers.{longestFile}
 use Rattle.column_listing.specs.Listing.{listingOf}
 use Rattle.column_listing_laws.proofs.Longest.{fits}
 use Rattle.stream_listing.proofs.Streams.{same-listing, fits-replied, fits-onto}
@@ -18,7 +19,7 @@ returns c =
     let t = listingOf (take (start .read) room) in
     let long = fits (take (start .read) room) in
     let p = c .print-front in
-    let more : 65536 < length room = omega (arith, c .before .before .print-front-arg .given .0) in
+    let more : longestFile < length room = omega (arith, c .before .before .print-front-arg .given .0) in
     let inside : length t ≤ length text = omega (arith, long .most, c .before .print-front-arg2 .given .0 .1) in
     let reply : p .result ≡ length t = p .ensures .0 ∙ fits-replied t text inside in
     (reply, (p .ensures .1 ∙ fits-onto t text inside, (λ stream h. same-listing stream (start .read) room more h, omega (arith, long .some))))

@@ -6,7 +6,7 @@ use Rattle.base_builder.proofs.builder.total.Tie as tie
 
 returns : tie.Need-returns
 unfolding total
-returns c = rw (c .before .before .before .wide .ensures .0, c .before .before .wide2 .ensures .0, c .before .wide3 .ensures .0, c .wide4 .ensures .0)
+returns c = rw (c .before .before .before .u32-as-u64 .ensures .0, c .before .before .u32-as-u642 .ensures .0, c .before .u32-as-u643 .ensures .0, c .u32-as-u644 .ensures .0)
 
 pub total-spec : {M : Type 1} → statement M
 total-spec =

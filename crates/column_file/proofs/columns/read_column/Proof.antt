@@ -13,7 +13,9 @@ use Rattle.column_file.proofs.columns.read_column.Tie as tie
 
 -- the column that the step names lies in the bytes
 inside : (c : tie.After-known-told)
-    → c .before .place .given .0 .0 + 2 * c .before .place .given .0 .1 .0 ≤ length (c .before .before .before .before .before .before .args .part .now)
+    → let s = c .before .before .before .before .before .before .args .part .now in
+    let column = c .before .place .given .0 in
+    column .0 + 2 * column .1 .0 ≤ length s
 inside c =
     let s = c .before .before .before .before .before .before .args .part .now in
     let r = c .before .before .before .column-at in
@@ -46,12 +48,14 @@ column-verdict-requires c κs = inside (c .before)
 
 returns-4 : tie.Need-returns-4
 returns-4 c =
+    let place = c .before .before .before .before .before .before .place in
+    let column-verdict = c .before .before .before .column-verdict in
     let s = c .before .before .before .before .before .before .before .before .before .before .before .args .part .now in
     let r = c .before .before .before .before .before .before .before .before .column-at in
     let start = c .before .before .before .before .before .before .place .given .0 .0 in
     let n = c .before .before .before .before .before .before .place .given .0 .1 .0 in
-    let is = column-is s 0 (r .result) (r .ensures .0) start n (c .before .before .before .before .before .before .place .given .1) in
-    let bad = sym (c .before .before .before .column-verdict .ensures) ∙ c .before .verdict .given .1 in
+    let is = column-is s 0 (r .result) (r .ensures .0) start n (place .given .1) in
+    let bad = sym (column-verdict .ensures) ∙ c .before .verdict .given .1 in
     column-said s _ (ap columnReadingOf (sym (read-refused s (omega arith) (observationsAt s start n) (start + 2 * n) is (omega arith) _ bad)))
 
 returns-5 : tie.Need-returns-5

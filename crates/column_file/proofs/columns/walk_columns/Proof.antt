@@ -23,7 +23,9 @@ abbrev μ-loop : tie.MeasureT-loop
 
 -- the column that the step names lies in the file
 inside : (c : tie.After-known-told Inv-loop μ-loop)
-    → c .before .start .given .0 .0 + 2 * c .before .start .given .0 .1 .0 ≤ length (c .before .before .before .before .before .before .before .args .file .now)
+    → let s = c .before .before .before .before .before .before .before .args .file .now in
+    let column = c .before .start .given .0 in
+    column .0 + 2 * column .1 .0 ≤ length s
 inside c =
     let s = c .before .before .before .before .before .before .before .args .file .now in
     let r = c .before .before .before .column-at in

@@ -14,8 +14,9 @@ use Rattle.column_file.proofs.file.read.Statement.{statement}
 use Rattle.column_file.proofs.file.read.Tie as tie
 
 -- where the sections are
-where-found : (c : tie.After-known-told) → let e = c .before .found .given .0 in
-    Found (alone (sections (c .before .before .before .before .before .before .args .file .now))) (e .0) (e .1 .0) (e .1 .1 .0) (e .1 .1 .1 .0)
+where-found : (c : tie.After-known-told) → let s = c .before .before .before .before .before .before .args .file .now in
+    let e = c .before .found .given .0 in
+    Found (alone (sections s)) (e .0) (e .1 .0) (e .1 .1 .0) (e .1 .1 .1 .0)
 where-found c = found _ _ _ _ _ (sym (c .before .found .given .1) ∙ c .before .before .before .sections-of .ensures)
 
 returns : tie.Need-returns
@@ -31,8 +32,9 @@ returns-2 c =
 
 settled-at-requires : tie.Need-settled-at-requires
 settled-at-requires c κs =
+    let args = c .before .before .before .before .before .before .args in
     let d = where-found c in
-    parts (c .before .before .before .before .before .before .args .file .now) (omega arith) (d .sections) (d .is) .reaches
+    parts (args .file .now) (omega arith) (d .sections) (d .is) .reaches
 
 returns-3 : tie.Need-returns-3
 returns-3 c =
@@ -43,8 +45,9 @@ returns-3 c =
 
 returns-4 : tie.Need-returns-4
 returns-4 c =
+    let told = c .before .before .before .before .before .before .before in
     let s = c .before .before .before .before .before .before .before .before .before .before .before .before .before .args .file .now in
-    let d = where-found (c .before .before .before .before .before .before .before) in
+    let d = where-found told in
     let t = c .before .before .before .before in
     let good = is-accepted (settingsOf (bytesOf s)) _ (sym (t .before .before .settled-at .ensures) ∙ t .tested .given .1) in
     let faulty = sym (d .verdict) ∙ c .before .verdict .given .1 in
@@ -52,10 +55,11 @@ returns-4 c =
 
 returns-5 : tie.Need-returns-5
 returns-5 c =
+    let told = c .before .before .before .before .before .before in
     let s = c .before .before .before .before .before .before .before .before .before .before .before .before .args .file .now in
     let t = c .before .before .before in
     let good = is-accepted (settingsOf (bytesOf s)) _ (sym (t .before .before .settled-at .ensures) ∙ t .tested .given .1) in
-    file-said s _ (accepted-at s (omega arith) _ _ _ _ (where-found (c .before .before .before .before .before .before)) _ good (c .enum-told3 .given .1))
+    file-said s _ (accepted-at s (omega arith) _ _ _ _ (where-found told) _ good (c .enum-told3 .given .1))
 
 pub read-spec : {M : Type 1} → statement M
 read-spec =

@@ -20,9 +20,10 @@ head c =
     said-at (c .before .before .before .before .before .args .file .now) (r .result) (r .ensures) _ _ (c .before .start .given .1)
 
 -- the columns that were walked over
-walk : (c : tie.After-known-told2) → let start = c .before .before .before .before .before .start .given .0 in
+walk : (c : tie.After-known-told2) → let s = c .before .before .before .before .before .before .before .before .before .args .file .now in
+    let start = c .before .before .before .before .before .start .given .0 in
     let end = c .before .walked .given .0 in
-    Walk (c .before .before .before .before .before .before .before .before .before .args .file .now) (start .0) (start .1 .0) (end .0) (end .1 .0)
+    Walk s (start .0) (start .1 .0) (end .0) (end .1 .0)
 walk c =
     let h = head (c .before .before .before .before) in
     let s = c .before .before .before .before .before .before .before .before .before .args .file .now in

@@ -34,18 +34,22 @@ settled-at-requires c κs =
 
 returns-4 : tie.Need-returns-4
 returns-4 c =
+    let start = c .before .before .before .before .before .before .start in
+    let settled-at = c .before .before .before .settled-at in
     let s = c .before .before .before .before .before .before .before .before .before .before .before .args .part .now in
     let r = c .before .before .before .before .before .before .before .before .head-of in
-    let at = said-at s (r .result) (r .ensures) _ _ (c .before .before .before .before .before .before .start .given .1) in
-    let bad = is-refused (settingsOf (bytesOf s)) _ (sym (c .before .before .before .settled-at .ensures) ∙ c .before .tested .given .1) in
+    let at = said-at s (r .result) (r .ensures) _ _ (start .given .1) in
+    let bad = is-refused (settingsOf (bytesOf s)) _ (sym (settled-at .ensures) ∙ c .before .tested .given .1) in
     settings-said s _ (ap settingsReadingOf (sym (read-refused s (omega arith) (at .2) (omega arith) _ bad)))
 
 returns-5 : tie.Need-returns-5
 returns-5 c =
+    let start = c .before .before .before .before .before .before .start in
+    let settled-at = c .before .before .before .settled-at in
     let s = c .before .before .before .before .before .before .before .before .before .before .before .args .part .now in
     let r = c .before .before .before .before .before .before .before .before .head-of in
-    let at = said-at s (r .result) (r .ensures) _ _ (c .before .before .before .before .before .before .start .given .1) in
-    let good = is-accepted (settingsOf (bytesOf s)) _ (sym (c .before .before .before .settled-at .ensures) ∙ c .before .tested2 .given .1) in
+    let at = said-at s (r .result) (r .ensures) _ _ (start .given .1) in
+    let good = is-accepted (settingsOf (bytesOf s)) _ (sym (settled-at .ensures) ∙ c .before .tested2 .given .1) in
     settings-said s _ (rw (at .1) (ap settingsReadingOf (sym (read-accepted s (omega arith) (at .2) (omega arith) _ good))))
 
 pub read-settings-spec : {M : Type 1} → statement M

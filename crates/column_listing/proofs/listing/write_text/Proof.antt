@@ -16,7 +16,9 @@ entered c = c .before .before .before .before .before .before .before .before .b
 -- the text by the windows and tables that were built
 text-same : (c : tie.After-start)
     → let p = entered c .args in
-    textWith (columnCallWith (c .before .before .before .windows .result) (c .start .result) (c .before .before .before .before .before .before .before .before .build-unanimous-gap-tables .result))
+    let at-windows = c .before .before .before in
+    let at-gaps = at-windows .before .before .before .before .before in
+    textWith (columnCallWith (at-windows .windows .result) (c .start .result) (at-gaps .build-unanimous-gap-tables .result))
     (columnsAt (p .file .now) (p .places .columns) (p .places .count)) (p .text .now) (p .had-errors)
     ≡ placesText (p .places) (p .file .now) (p .text .now) (p .had-errors)
 text-same c =

@@ -2,7 +2,8 @@
 use mathlib.Core.Path.{ap}
 use Rattle.lent_text.proofs.Printed.{print-then, printed-length, printed-as}
 use borrow.Author.Needs.{needs}
-use Rattle.column_records.specs.Records.{fourBytes, recordOf}
+use Rattle.lent_bytes.specs.Bytes.{fourBytes}
+use Rattle.column_records.specs.Records.{recordOf}
 use Rattle.column_records.proofs.columns.put_record.Statement.{statement}
 use Rattle.column_records.proofs.columns.put_record.Tie as tie
 
@@ -23,10 +24,10 @@ whole c =
     print-then
     (print-then (print-then (print-then (base .put-byte .ensures) (quality .put-byte2 .ensures)) (zero .put-byte3 .ensures)) (other .put-byte4 .ensures))
     (print-then (depth .put-four .ensures)
-    (print-then (printed-as (a .put-four2 .ensures) (ap fourBytes (a .before .wide .ensures)))
-    (print-then (printed-as (l .put-four3 .ensures) (ap fourBytes (l .before .wide2 .ensures)))
-    (print-then (printed-as (g .put-four4 .ensures) (ap fourBytes (g .before .wide3 .ensures)))
-    (print-then (printed-as (t .put-four5 .ensures) (ap fourBytes (t .before .wide4 .ensures))) (printed-as (rest .put-four6 .ensures) (ap fourBytes (rest .before .ignored .ensures))))))))
+    (print-then (printed-as (a .put-four2 .ensures) (ap fourBytes (a .before .u32-as-u64 .ensures .0)))
+    (print-then (printed-as (l .put-four3 .ensures) (ap fourBytes (l .before .u32-as-u642 .ensures .0)))
+    (print-then (printed-as (g .put-four4 .ensures) (ap fourBytes (g .before .u32-as-u643 .ensures .0)))
+    (print-then (printed-as (t .put-four5 .ensures) (ap fourBytes (t .before .u32-as-u644 .ensures .0))) (printed-as (rest .put-four6 .ensures) (ap fourBytes (rest .before .ignored .ensures))))))))
 
 same-length : tie.Need-same-length
 same-length c = printed-length (whole c)

@@ -6,10 +6,10 @@ use Prim.Native.Nat.{ℕ, _+_, _-_, _*_, _≤_}
 use lib.ListN.{length, take, drop}
 use Rattle.unanimous_shortcut.specs.Unanimous.{tablesOf}
 use Rattle.lent_text.specs.Printed.{Printed}
-use Rattle.lent_text.proofs.Printed.{print-then, print-none, printed-length, printed-as}
+use Rattle.lent_text.proofs.Printed.{print-then, print-none, printed-length, printed-as, one-more, no-more}
 use Rattle.column_file.specs.Places.{columnsAt}
 use Rattle.column_calls.specs.Tables.{observationsIn, columnCallWith}
-use Rattle.listing_lines.proofs.Lines.{column-fits, one-more, no-more}
+use Rattle.listing_lines.proofs.Lines.{column-fits}
 use Rattle.column_records.specs.Records.{recordOf, recordsWith}
 use Rattle.column_records.proofs.RecordLaws.{records-more, records-past, records-none}
 use borrow.Author.Needs.{needs}
@@ -28,8 +28,9 @@ abbrev μ-loop : tie.MeasureT-loop
 
 -- the column lies in the file
 inside : (c : tie.After-known-told Inv-loop μ-loop)
-    → c .before .next .given .0 .0 + 2 * c .before .next .given .0 .1 .0
-    ≤ length (c .before .before .before .before .before .before .before .before .args .file .now)
+    → let s = c .before .before .before .before .before .before .before .before .args .file .now in
+    let column = c .before .next .given .0 in
+    column .0 + 2 * column .1 .0 ≤ length s
 inside c =
     let l = c .before .before .before .before .before .loop in
     let a = c .before .before .before .before .before .before .before .before .args in

@@ -4,14 +4,15 @@ use mathlib.Core.Path.{_≡_, refl, sym, _∙_}
 use Prim.Native.Nat.{_+_}
 use lib.ListN.{length, length-set}
 use lib.Seq.{sets}
-use Rattle.export_reports.specs.Bytes.{bytesOf}
-use Rattle.export_reports.proofs.Puts.{bytes-more, bytes-none, bytes-length}
+use Rattle.lent_bytes.specs.Bytes.{numberBytes}
+use Rattle.lent_bytes.proofs.Numbers.{bytes-length}
+use Rattle.export_reports.proofs.Puts.{bytes-more, bytes-none}
 use borrow.Author.Needs.{needs}
 use Rattle.export_reports.proofs.bytes.put_number.Statement.{statement}
 use Rattle.export_reports.proofs.bytes.put_number.Tie as tie
 
 abbrev Inv-loop : tie.InvT-loop
-Inv-loop out₀ at n width rest₀ left₀ place₀ out rest left place = (place + left ≡ at + width) × (sets out place (bytesOf left rest) ≡ sets out₀ at (bytesOf width n)) × (length out ≡ length out₀)
+Inv-loop out₀ at n width rest₀ left₀ place₀ out rest left place = (place + left ≡ at + width) × (sets out place (numberBytes left rest) ≡ sets out₀ at (numberBytes width n)) × (length out ≡ length out₀)
 
 abbrev μ-loop : tie.MeasureT-loop
 μ-loop out₀ at n width rest₀ left₀ place₀ out rest left place = left

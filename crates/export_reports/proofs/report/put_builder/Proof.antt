@@ -8,15 +8,25 @@ use Rattle.export_reports.proofs.report.put_builder.Statement.{statemen
 use Rattle.export_reports.proofs.report.put_builder.Tie as tie
 
 put-patterns-requires-2 : tie.Need-put-patterns-requires-2
-put-patterns-requires-2 c κs = omega (arith, c .before .before .before .put-patterns .ensures .place, patterns-length (c .before .before .before .before .before .before .before .before .before .args .builder .likelihoods))
+put-patterns-requires-2 c κs =
+    let args = c .before .before .before .before .before .before .before .before .before .args in
+    let put-patterns = c .before .before .before .put-patterns in
+    omega (arith, put-patterns .ensures .place, patterns-length (args .builder .likelihoods))
 
 put-counts-requires : tie.Need-put-counts-requires
-put-counts-requires c κs = omega (arith, c .before .before .before .before .before .before .before .put-patterns .ensures .place, c .before .before .before .put-patterns2 .ensures .place, patterns-length (c .before .before .before .before .before .before .before .before .before .before .before .before .before .args .builder .likelihoods), patterns-length (c .before .before .before .before .before .before .before .before .before .before .before .before .before .args .builder .compensations))
+put-counts-requires c κs =
+    let args = c .before .before .before .before .before .before .before .before .before .before .before .before .before .args in
+    let put-patterns = c .before .before .before .before .before .before .before .put-patterns in
+    let put-patterns2 = c .before .before .before .put-patterns2 in
+    omega (arith, put-patterns .ensures .place, put-patterns2 .ensures .place, patterns-length (args .builder .likelihoods), patterns-length (args .builder .compensations))
 
 -- the puts, one after another
 whole : tie.Need-returns
 unfolding builderBytes
-whole c = put-then (put-then (c .before .before .before .before .before .before .before .before .before .before .put-patterns .ensures) (c .before .before .before .before .before .before .put-patterns2 .ensures)) (c .before .before .put-counts .ensures)
+whole c =
+    let put-patterns = c .before .before .before .before .before .before .before .before .before .before .put-patterns in
+    let put-patterns2 = c .before .before .before .before .before .before .put-patterns2 in
+    put-then (put-then (put-patterns .ensures) (put-patterns2 .ensures)) (c .before .before .put-counts .ensures)
 
 same-length : tie.Need-same-length
 same-length c = put-length (whole c)

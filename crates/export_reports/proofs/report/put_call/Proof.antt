@@ -5,7 +5,9 @@ use Rattle.export_reports.proofs.report.put_call.Statement.{statement}
 use Rattle.export_reports.proofs.report.put_call.Tie as tie
 
 returns : tie.Need-returns
-returns c = put-then (c .before .before .before .before .before .before .put-byte .ensures) (c .before .before .put-byte2 .ensures)
+returns c =
+    let put-byte = c .before .before .before .before .before .before .put-byte in
+    put-then (put-byte .ensures) (c .before .before .put-byte2 .ensures)
 
 pub put-call-spec : {M : Type 1} → statement M
 put-call-spec =

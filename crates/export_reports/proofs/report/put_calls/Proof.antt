@@ -8,20 +8,42 @@ use Rattle.export_reports.proofs.report.put_calls.Statement.{statement}
 use Rattle.export_reports.proofs.report.put_calls.Tie as tie
 
 put-reply-requires-2 : tie.Need-put-reply-requires-2
-put-reply-requires-2 c κs = omega (arith, c .before .before .before .put-reply .ensures .place, reply-length (c .before .before .before .before .before .before .try-unanimous-fast-path-by .result), reply-length (c .before .before .before .before .before .try-multibase-fast-path .result))
+put-reply-requires-2 c κs =
+    let try-unanimous-fast-path-by = c .before .before .before .before .before .before .try-unanimous-fast-path-by in
+    let try-multibase-fast-path = c .before .before .before .before .before .try-multibase-fast-path in
+    let put-reply = c .before .before .before .put-reply in
+    omega (arith, put-reply .ensures .place, reply-length (try-unanimous-fast-path-by .result), reply-length (try-multibase-fast-path .result))
 
 put-call-requires : tie.Need-put-call-requires
-put-call-requires c κs = omega (arith, c .before .before .before .before .before .before .before .before .put-reply .ensures .place, c .before .before .before .before .put-reply2 .ensures .place, reply-length (c .before .before .before .before .before .before .before .before .before .before .before .try-unanimous-fast-path-by .result), reply-length (c .before .before .before .before .before .before .before .before .before .before .try-multibase-fast-path .result))
+put-call-requires c κs =
+    let try-unanimous-fast-path-by = c .before .before .before .before .before .before .before .before .before .before .before .try-unanimous-fast-path-by in
+    let try-multibase-fast-path = c .before .before .before .before .before .before .before .before .before .before .try-multibase-fast-path in
+    let put-reply = c .before .before .before .before .before .before .before .before .put-reply in
+    let put-reply2 = c .before .before .before .before .put-reply2 in
+    omega (arith, put-reply .ensures .place, put-reply2 .ensures .place, reply-length (try-unanimous-fast-path-by .result), reply-length (try-multibase-fast-path .result))
 
 put-call-requires-2 : tie.Need-put-call-requires-2
-put-call-requires-2 c κs = omega (arith, c .before .before .before .before .before .before .before .before .before .before .before .before .before .put-reply .ensures .place, c .before .before .before .before .before .before .before .before .before .put-reply2 .ensures .place, c .before .before .before .before .put-call .ensures .place, reply-length (c .before .before .before .before .before .before .before .before .before .before .before .before .before .before .before .before .try-unanimous-fast-path-by .result), reply-length (c .before .before .before .before .before .before .before .before .before .before .before .before .before .before .before .try-multibase-fast-path .result))
+put-call-requires-2 c κs =
+    let unanimous = c .before .before .before .before .before .before .before .before .before .before .before .before .before .before .before .before .try-unanimous-fast-path-by .result in
+    let multibase = c .before .before .before .before .before .before .before .before .before .before .before .before .before .before .before .try-multibase-fast-path .result in
+    let after-unanimous = c .before .before .before .before .before .before .before .before .before .before .before .before .before .put-reply .ensures .place in
+    let after-multibase = c .before .before .before .before .before .before .before .before .before .put-reply2 .ensures .place in
+    let after-full = c .before .before .before .before .put-call .ensures .place in
+    omega (arith, after-unanimous, after-multibase, after-full, reply-length unanimous, reply-length multibase)
 
 -- the puts, one after another
 whole : tie.Need-returns
 unfolding callsBytes
 whole c =
-    rw (← c .before .before .before .before .before .before .before .before .before .before .before .before .before .before .before .before .before .before .before .try-unanimous-fast-path-by .ensures, ← c .before .before .before .before .before .before .before .before .before .before .before .before .before .before .before .before .before .before .try-multibase-fast-path .ensures, ← c .before .before .before .before .before .before .before .before .call-full .ensures, ← c .before .before .before .call-by .ensures)
-    (put-then (put-then (put-then (c .before .before .before .before .before .before .before .before .before .before .before .before .before .before .before .before .put-reply .ensures) (c .before .before .before .before .before .before .before .before .before .before .before .before .put-reply2 .ensures)) (c .before .before .before .before .before .before .before .put-call .ensures)) (c .before .before .put-call2 .ensures))
+    let try-unanimous-fast-path-by = c .before .before .before .before .before .before .before .before .before .before .before .before .before .before .before .before .before .before .before .try-unanimous-fast-path-by in
+    let try-multibase-fast-path = c .before .before .before .before .before .before .before .before .before .before .before .before .before .before .before .before .before .before .try-multibase-fast-path in
+    let put-reply = c .before .before .before .before .before .before .before .before .before .before .before .before .before .before .before .before .put-reply in
+    let put-reply2 = c .before .before .before .before .before .before .before .before .before .before .before .before .put-reply2 in
+    let call-full = c .before .before .before .before .before .before .before .before .call-full in
+    let put-call = c .before .before .before .before .before .before .before .put-call in
+    let call-by = c .before .before .before .call-by in
+    rw (← try-unanimous-fast-path-by .ensures, ← try-multibase-fast-path .ensures, ← call-full .ensures, ← call-by .ensures)
+    (put-then (put-then (put-then (put-reply .ensures) (put-reply2 .ensures)) (put-call .ensures)) (c .before .before .put-call2 .ensures))
 
 same-length : tie.Need-same-length
 same-length c = put-length (whole c)

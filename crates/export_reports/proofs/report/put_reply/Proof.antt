@@ -1,15 +1,18 @@
 -- `put_reply`: by what the shortcut answered. Assumes nothing.
-use Rattle.export_reports.specs.Bytes.{bytesOf}
+use Rattle.lent_bytes.specs.Bytes.{numberBytes}
 use Rattle.export_reports.proofs.Puts.{put-then}
 use borrow.Author.Needs.{needs}
 use Rattle.export_reports.proofs.report.put_reply.Statement.{statement}
 use Rattle.export_reports.proofs.report.put_reply.Tie as tie
 
 returns : tie.Need-returns
-returns c = rw (c .before .before .before .before .before .before .before .before .before .reply .given .1) (put-then (c .before .before .before .before .before .before .put-byte .ensures) (c .before .before .put-call .ensures))
+returns c =
+    let reply = c .before .before .before .before .before .before .before .before .before .reply in
+    let put-byte = c .before .before .before .before .before .before .put-byte in
+    rw (reply .given .1) (put-then (put-byte .ensures) (c .before .before .put-call .ensures))
 
 returns-2 : tie.Need-returns-2
-unfolding bytesOf
+unfolding numberBytes
 returns-2 c = rw (c .before .before .before .before .enum-told .given .1) (c .before .before .put-number .ensures)
 
 pub put-reply-spec : {M : Type 1} → statement M

@@ -51,10 +51,13 @@ small : (c : tie.In-loop Inv-loop μ-loop) → c .before .loop .i + 3 < 2 ^ 64
 small c = omega arith
 
 add-i : tie.Need-add-i Inv-loop μ-loop
-add-i c = omega (arith, small (c .before .before .before .before .before .before .before .before .before))
+add-i c =
+    let turn-start = c .before .before .before .before .before .before .before .before .before in
+    omega (arith, small turn-start)
 
 loop-again : tie.Need-loop-again Inv-loop μ-loop
 loop-again c =
+    let put-item = c .before .before .before .before .before .before .put-item in
     let l = c .before .before .before .before .before .before .before .before .before .before .loop in
     let a = c .before .before .before .before .before .before .before .before .before .before .before .before .before .args in
     let s = a .script .now in
@@ -62,7 +65,7 @@ loop-again c =
     let g = tablesOf (a .thresholds .now) (a .cerr-min .now) (a .cap) in
     let h = c .before .before .before .before .before .before .before .before .before .loop-test .taken in
     let w = if ltb (getD s (l .i) 0) 3 then [] else reportOf g (l .progress) in
-    let put : Put (l .out) (l .at) w (c .before .before .before .before .before .before .put-item .last .1 .0) (c .before .before .before .before .before .before .put-item .result) = c .before .before .before .before .before .before .put-item .ensures in (
+    let put : Put (l .out) (l .at) w (put-item .last .1 .0) (put-item .result) = put-item .ensures in (
       omega arith,
       omega (arith, put .place, put-length {t = w} put, said-length g (getD s (l .i) 0) (l .progress), questions-at s (l .i) h, l .inv .1),
       rw (c .pass-by .ensures) (put-before {t = w} _ put ∙ sym (ap (sets (l .out) (l .at)) (turn t g s (l .i) (l .progress) h)) ∙ l .inv .2),

@@ -4,10 +4,17 @@ use Rattle.export_reports.proofs.runs.put_script.Statement.{statement}
 use Rattle.export_reports.proofs.runs.put_script.Tie as tie
 
 put-reports-requires : tie.Need-put-reports-requires
-put-reports-requires c κs = rw (c .before .before .before .before .before .before .before .before .before .before .compute .ensures, c .before .before .before .before .before .before .before .before .before .build-unanimous-gap-tables .ensures) (c .before .before .before .before .before .before .before .before .before .before .before .before .before .pre)
+put-reports-requires c κs =
+    let pre = c .before .before .before .before .before .before .before .before .before .before .before .before .before .pre in
+    let compute = c .before .before .before .before .before .before .before .before .before .before .compute in
+    let build-unanimous-gap-tables = c .before .before .before .before .before .before .before .before .before .build-unanimous-gap-tables in
+    rw (compute .ensures, build-unanimous-gap-tables .ensures) pre
 
 returns : tie.Need-returns
-returns c = rw (← c .before .before .before .before .before .before .before .before .before .before .before .before .before .compute .ensures, ← c .before .before .before .before .before .before .before .before .before .before .before .before .build-unanimous-gap-tables .ensures) (c .before .before .put-reports .ensures)
+returns c =
+    let compute = c .before .before .before .before .before .before .before .before .before .before .before .before .before .compute in
+    let build-unanimous-gap-tables = c .before .before .before .before .before .before .before .before .before .before .before .before .build-unanimous-gap-tables in
+    rw (← compute .ensures, ← build-unanimous-gap-tables .ensures) (c .before .before .put-reports .ensures)
 
 pub put-script-spec : {M : Type 1} → statement M
 put-script-spec =

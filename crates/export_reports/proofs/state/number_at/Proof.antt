@@ -2,8 +2,9 @@
 use native.Mathlib.Omega.{arith}
 use mathlib.Core.Path.{_≡_, _∙_, ap}
 use Prim.Native.Nat.{ℕ, _+_, _-_, _^_, _≤_, _<_}
-use Rattle.export_reports.specs.State.{numberAt}
-use Rattle.export_reports.proofs.Numbers.{number-none, number-more, room, more-room}
+use Rattle.lent_bytes.specs.Bytes.{numberAt}
+use Rattle.lent_bytes.proofs.Numbers.{number-none, number-more}
+use Rattle.export_reports.proofs.Numbers.{room, more-room}
 use borrow.Author.Needs.{needs}
 use Rattle.export_reports.proofs.state.number_at.Statement.{statement}
 use Rattle.export_reports.proofs.state.number_at.Tie as tie

@@ -7,7 +7,13 @@ use Rattle.export_reports.proofs.state.numbers_at.Tie as tie
 
 returns : tie.Need-returns
 unfolding lanes
-returns c = rw (c .before .before .before .before .before .before .from-pattern .ensures, c .before .before .before .before .before .before .before .number-at .ensures .0, c .before .before .before .before .from-pattern2 .ensures, c .before .before .before .before .before .number-at2 .ensures .0, c .before .before .from-pattern3 .ensures, c .before .before .before .number-at3 .ensures .0, c .from-pattern4 .ensures, c .before .number-at4 .ensures .0, add-zero)
+returns c =
+    let number-at = c .before .before .before .before .before .before .before .number-at in
+    let from-pattern = c .before .before .before .before .before .before .from-pattern in
+    let number-at2 = c .before .before .before .before .before .number-at2 in
+    let from-pattern2 = c .before .before .before .before .from-pattern2 in
+    let number-at3 = c .before .before .before .number-at3 in
+    rw (from-pattern .ensures, number-at .ensures .0, from-pattern2 .ensures, number-at2 .ensures .0, c .before .before .from-pattern3 .ensures, number-at3 .ensures .0, c .from-pattern4 .ensures, c .before .number-at4 .ensures .0, add-zero)
 
 pub numbers-at-spec : {M : Type 1} → statement M
 numbers-at-spec =

@@ -26,7 +26,9 @@ abbrev μ-loop : tie.MeasureT-loop
 
 -- the column lies in the file
 inside : (c : tie.After-known-told Inv-loop μ-loop)
-    → c .before .next .given .0 .0 + 2 * c .before .next .given .0 .1 .0 ≤ length (c .before .before .before .before .before .before .before .args .file .now)
+    → let s = c .before .before .before .before .before .before .before .args .file .now in
+    let column = c .before .next .given .0 in
+    column .0 + 2 * column .1 .0 ≤ length s
 inside c =
     let l = c .before .before .before .before .before .loop in
     let a = c .before .before .before .before .before .before .before .args in

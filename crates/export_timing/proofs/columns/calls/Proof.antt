@@ -1,7 +1,7 @@
 -- `calls`: nothing of a refused file, and else all rounds over the columns where the reading puts them. Assumes nothing.
 use mathlib.Core.Path.{sym, _∙_}
 use Rattle.column_file.specs.Reading.{readFile}
-use Rattle.column_calls.proofs.Readings.{read-refused, read-accepted}
+use Rattle.column_file.proofs.Readings.{read-refused, read-accepted}
 use Rattle.export_timing.proofs.ColumnAmounts.{calls-refused, calls-accepted}
 use borrow.Author.Needs.{needs}
 use Rattle.export_timing.proofs.columns.calls.Statement.{statement}

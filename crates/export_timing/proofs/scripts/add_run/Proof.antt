@@ -30,19 +30,24 @@ small : (c : tie.In-loop Inv-loop μ-loop) → c .before .loop .i + 3 < 2 ^ 64
 small c = omega arith
 
 add-i : tie.Need-add-i Inv-loop μ-loop
-add-i c = omega (arith, small (c .before .before .before .before .before .before .before))
+add-i c =
+    let turn-start = c .before .before .before .before .before .before .before in
+    omega (arith, small turn-start)
 
 loop-again : tie.Need-loop-again Inv-loop μ-loop
 loop-again c =
+    let loop-test = c .before .before .before .before .before .before .before .loop-test in
+    let amount-at = c .before .before .before .before .before .amount-at in
+    let wrapping-add-u64 = c .before .before .before .before .wrapping-add-u64 in
     let l = c .before .before .before .before .before .before .before .before .loop in
     let a = c .before .before .before .before .before .before .before .before .before .before .args in
     let s = a .script .now in
     let t = adjustedOf (a .correct .now) (a .error-per-alt .now) in
     let g = tablesOf (a .thresholds .now) (a .cerr-min .now) (a .cap) in (
       omega arith,
-      rw (c .before .before .before .before .wrapping-add-u64 .ensures, c .before .before .before .before .before .amount-at .ensures, c .step .ensures)
-          (wrapped (l .total) (amountBy g (getD s (l .i) 0) (l .builder)) _ (2 ^ 64) ∙ ap (λ (k : ℕ). (l .total + k) % 2 ^ 64) (sym (turn t g s (l .i) (l .builder) (c .before .before .before .before .before .before .before .loop-test .taken))) ∙ l .inv .1),
-      omega (arith, c .before .before .before .before .wrapping-add-u64 .ensures),
+      rw (wrapping-add-u64 .ensures, amount-at .ensures, c .step .ensures)
+          (wrapped (l .total) (amountBy g (getD s (l .i) 0) (l .builder)) _ (2 ^ 64) ∙ ap (λ (k : ℕ). (l .total + k) % 2 ^ 64) (sym (turn t g s (l .i) (l .builder) (loop-test .taken))) ∙ l .inv .1),
+      omega (arith, wrapping-add-u64 .ensures),
     )
 
 returns : tie.Need-returns Inv-loop μ-loop

@@ -16,7 +16,16 @@ returns-2 c = rw (le-leb _ _ (c .before .before .if1 .left), sym (c .before .is-
 
 returns-3 : tie.Need-returns-3
 unfolding timesOf
-returns-3 c = rw (le-leb _ _ (c .before .before .before .before .before .before .before .before .before .before .before .before .before .before .before .before .if1 .left), sym (c .before .before .before .before .before .before .before .before .before .before .before .before .before .before .before .is-script .ensures) ∙ not-false (c .before .before .before .before .before .before .before .before .before .before .before .before .before .before .before .is-script .result) (c .before .before .before .before .before .before .before .before .before .before .before .before .before .before .if2 .left), ← c .before .before .before .before .before .before .before .before .before .before .before .before .before .compute .ensures, ← c .before .before .before .before .before .before .before .before .before .before .before .before .build-unanimous-gap-tables .ensures, ← c .before .before .before .before .before .before .before .new .ensures, ← c .before .before .before .before .before .before .rule-of .ensures, ← c .before .before .before .before .before .with-tie-rule .ensures) (c .add-runs .ensures)
+returns-3 c =
+    let if1 = c .before .before .before .before .before .before .before .before .before .before .before .before .before .before .before .before .if1 in
+    let is-script = c .before .before .before .before .before .before .before .before .before .before .before .before .before .before .before .is-script in
+    let if2 = c .before .before .before .before .before .before .before .before .before .before .before .before .before .before .if2 in
+    let compute = c .before .before .before .before .before .before .before .before .before .before .before .before .before .compute in
+    let build-unanimous-gap-tables = c .before .before .before .before .before .before .before .before .before .before .before .before .build-unanimous-gap-tables in
+    let new = c .before .before .before .before .before .before .before .new in
+    let rule-of = c .before .before .before .before .before .before .rule-of in
+    let with-tie-rule = c .before .before .before .before .before .with-tie-rule in
+    rw (le-leb _ _ (if1 .left), sym (is-script .ensures) ∙ not-false (is-script .result) (if2 .left), ← compute .ensures, ← build-unanimous-gap-tables .ensures, ← new .ensures, ← rule-of .ensures, ← with-tie-rule .ensures) (c .add-runs .ensures)
 
 pub times-spec : {M : Type 1} → statement M
 times-spec =

@@ -78,7 +78,9 @@ part-put-set-end : tie.Need-part-put-set-end Inv-loop μ-loop
 part-put-set-end c = let (x, y, z) = where-is c in omega arith
 
 loop-less : tie.Need-loop-less Inv-loop μ-loop
-loop-less c = let (x, y, z) = where-is (c .before .before .before .before .before .before) in omega arith
+loop-less c =
+    let told = c .before .before .before .before .before .before in
+    let (x, y, z) = where-is told in omega arith
 
 loop-again : tie.Need-loop-again Inv-loop μ-loop
 loop-again c =

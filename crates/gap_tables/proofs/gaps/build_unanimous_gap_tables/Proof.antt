@@ -6,11 +6,11 @@ use Rattle.gap_tables.proofs.gaps.build_unanimous_gap_tables.Statement.
 use Rattle.gap_tables.proofs.gaps.build_unanimous_gap_tables.Tie as tie
 
 cerr-table-requires : tie.Need-cerr-table-requires
-cerr-table-requires c κs = rw (c .before .wide .ensures, c .before .before .ln-prob-to-phred .ensures) (levels _ .1)
+cerr-table-requires c κs = rw (c .before .wide .ensures .0, c .before .before .ln-prob-to-phred .ensures) (levels _ .1)
 
 returns : tie.Need-returns
 unfolding gapTables capOf
-returns c = rw (c .cerr-table .ensures, c .before .before .wide .ensures, c .before .before .before .ln-prob-to-phred .ensures, c .before .before .before .before .phred-to-ln-error-prob .ensures, c .before .before .before .before .before .build-unanimous-gap-thresholds .ensures)
+returns c = rw (c .cerr-table .ensures, c .before .before .wide .ensures .0, c .before .before .before .ln-prob-to-phred .ensures, c .before .before .before .before .phred-to-ln-error-prob .ensures, c .before .before .before .before .before .build-unanimous-gap-thresholds .ensures)
 
 pub build-unanimous-gap-tables-spec : {M : Type 1} → statement M
 build-unanimous-gap-tables-spec =

@@ -1,13 +1,13 @@
 -- `put_four`: its bytes, one after another. Assumes nothing.
 use Rattle.lent_text.proofs.Printed.{print-then, printed-length}
 use borrow.Author.Needs.{needs}
-use Rattle.column_records.specs.Records.{fourBytes}
-use Rattle.column_records.proofs.columns.put_four.Statement.{statement}
-use Rattle.column_records.proofs.columns.put_four.Tie as tie
+use Rattle.lent_bytes.specs.Bytes.{numberBytes}
+use Rattle.lent_text.proofs.put_four.Statement.{statement}
+use Rattle.lent_text.proofs.put_four.Tie as tie
 
 -- the puts, one after another
 whole : tie.Need-returns
-unfolding fourBytes
+unfolding numberBytes
 whole c =
     let fourth = c .before .before in
     let third = fourth .before .before .before .before in
