@@ -37,8 +37,8 @@ unexport EXPORTS_FOLDER
 help: ## list the targets
 	@sed -n 's/^\([a-z]*\):[^#]*## \(.*\)/\1\t\2/p' $(MAKEFILE_LIST) | expand -t 14
 
-# rt starts a batch of checks and waits for all of it: with four at a time fewer processors stand idle
-# while the longest one ends. Each takes about 1 GB.
+# rt starts a batch of checks and waits for all of it: with four at a time no processor is idle while
+# the longest one ends. Each takes about 1 GB.
 test: export RT_JOBS ?= 4
 test: need-rt ## everything: layout, all proofs from nothing, comparison beside the Rust (COMPARISON=required)
 	@tests/everything
@@ -62,11 +62,11 @@ PREFIX ?= /usr/local
 install: library ## the library below a folder (PREFIX=/usr/local)
 	@packaging/make-dist $(PREFIX)
 
-differential: library ## compare with the Rust, bit for bit, where the Rust can be had (COMPARISON=required)
+differential: library ## compare with the Rust, bit for bit, if its source is there (COMPARISON=required)
 	@differential/everything --arguments $(ARGUMENTS) --histories $(HISTORIES) \
 		--builders $(BUILDERS) --sets $(SETS) --files $(FILES)
 
-soak: library ## compare what is drawn for as long as one likes (MINUTES=60 SEED=1)
+soak: library ## compare drawn inputs for a given time (MINUTES=60 SEED=1)
 	@differential/run soak --minutes $(MINUTES) --seed $(SEED)
 
 vectors: library ## write the stored list of the Rust's answers anew (VECTORS=FILE)
@@ -75,7 +75,7 @@ vectors: library ## write the stored list of the Rust's answers anew (VECTORS=FI
 bench: library ## times, the Rust's beside ours (BENCH=--markdown)
 	@differential/run bench $(BENCH)
 
-fmt: need-rt ## lay out the Rattle, and the Rust where cargo can be had
+fmt: need-rt ## lay out the Rattle, and the Rust if cargo is there
 	rt fmt
 	cd differential && if cargo fmt --version >/dev/null 2>&1; \
 		then cargo fmt && rustfmt --edition 2024 oracle/accessors/*.rs; fi

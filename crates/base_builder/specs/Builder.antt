@@ -82,7 +82,7 @@ observed correct error k b = observedBy (valueOf correct error k) k b
 abbrev pub entryOf : ℕ → ℕ
 entryOf q = min q 93
 
--- so many observations fill a builder
+-- the number of observations that fill a builder
 abbrev pub fullCount : ℕ
 fullCount = 4294967295
 

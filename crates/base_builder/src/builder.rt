@@ -25,7 +25,7 @@ pub struct ConsensusBaseBuilder {
     pub ln_error_pre_umi: LogProbability,
 }
 
-// So many observations fill a builder.
+// The number of observations that fill a builder.
 pub const FULL_COUNT: u64 = 4294967295;
 
 pub enum Answer {
@@ -144,7 +144,7 @@ pub fn total(observations: [u32; 4]) -> u64
         + u32_as_u64(observations[3])
 }
 
-// One observation, with the two tables lent.
+// One observation, with the two tables borrowed.
 pub fn add_with(
     builder: ConsensusBaseBuilder,
     base: u8,

@@ -56,7 +56,7 @@ impl ConsensusBaseBuilder {
     }
 }
 
-// The shortcut where one base alone was observed, with the tables lent.
+// The shortcut where one base alone was observed, with the tables borrowed.
 pub fn try_unanimous_fast_path_with(
     builder: ConsensusBaseBuilder,
     thresholds: &[f64; 94],
@@ -102,7 +102,7 @@ fn call_counted(
     }
 }
 
-// The base and its quality, with the tables lent.
+// The base and its quality, with the tables borrowed.
 pub fn call_with(
     builder: ConsensusBaseBuilder,
     thresholds: &[f64; 94],

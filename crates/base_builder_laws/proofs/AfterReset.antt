@@ -1,4 +1,4 @@
--- Any builder whatever, after a reset and any events: the base of its call is that of the lane that its rule names. Assumes nothing.
+-- Any builder, after a reset and any events: the base of its call is that of the lane that its rule names. Assumes nothing.
 use mathlib.Core.List.{List, [], _∷_}
 use Prim.Native.Nat.{ℕ}
 use Rattle.rate_tables.specs.Adjusted.{adjustedTables}

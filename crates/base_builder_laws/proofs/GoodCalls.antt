@@ -1,4 +1,4 @@
--- What a call can be: with the tables of any pre-UMI rate every builder whatever is called A, C, G or T with a quality of 2 to 93, or N with exactly 2; so
+-- What a call can be: with the tables of any pre-UMI rate every builder is called A, C, G or T with a quality of 2 to 93, or N with exactly 2; so
 -- do the long calculation and each shortcut that replies. Assumes nothing.
 use mathlib.Core.Path.{_≡_, refl}
 use mathlib.Core.Bool.{true}

@@ -16,7 +16,7 @@ meetsFull base b = not (eqb (laneOfByte base) noLane) && isFull b
 pub record AddConditions (base : ℕ) (b : ConsensusBaseBuilder) : Type 0 where
   -- 11: a base that meets a full builder
   pub full : meetsFull base b ≡ true → addNumber (answerOf base b) ≡ 11
-  -- and none else, whatever the byte and the builder
+  -- and none else, for every byte and builder
   pub accepted-else : meetsFull base b ≡ false → addNumber (answerOf base b) ≡ 0
   -- what is refused leaves the builder as it was, with any tables and at any quality
   pub unchanged : addNumber (answerOf base b) ≡ 11 → (correct error : List Float) (q : ℕ) → added correct error base q b ≡ b

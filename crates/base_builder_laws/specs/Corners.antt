@@ -34,6 +34,6 @@ atQuality0 =
     ∷ aboutLn (getD (adjustedTables 0 .«error_per_alt») (entryOf 0) nan) 2 9
     ∷ []
 
--- after a value of -infinity the next counted base makes a lane NaN, whatever lane and compensation were
+-- after a value of -infinity the next counted base makes a lane NaN, for every lane and compensation
 abbrev pub NanAfter : Type 0
 NanAfter = (v : Float) (s : Sum) → movedBy v (movedBy lnZero s) .lane ≡ nan

@@ -24,7 +24,7 @@ abbrev pub repliesWell : Reply → Bool
 repliesWell (Replied c) = isCall c
 repliesWell Deferred = true
 
--- Any builder whatever, with the tables of any pre-UMI rate, its own or another: the call, the long calculation and each shortcut's reply.
+-- Any builder, with the tables of any pre-UMI rate, its own or another: the call, the long calculation and each shortcut's reply.
 pub record GoodCalls (pre : ℕ) (b : ConsensusBaseBuilder) : Type 0 where
   pub call : T (isCall (callOf (gapTables pre) b))
   pub full : T (isCall (callFullOf b))

@@ -24,6 +24,6 @@ pub record Laws (pre post : ℕ) (rule : TieRule) (es : List Event) : Type 0 whe
   -- as there is where nothing was counted
   pub nothing-counted : contributionsOf (after pre post rule es) ≡ 0 → ruled (after pre post rule es) ≡ noLane
 
--- any builder whatever, after a reset and any events: here too the base of the call is that of the rule's lane, with the tables of any pre-UMI rate
+-- any builder, after a reset and any events: here too the base of the call is that of the rule's lane, with the tables of any pre-UMI rate
 pub record AfterReset (pre post : ℕ) (b : ConsensusBaseBuilder) (es : List Event) : Type 0 where
   pub call-base : callOf (gapTables pre) (run (adjustedTables post) (reset ∷ es) b) .base ≡ baseOf (ruled (run (adjustedTables post) (reset ∷ es) b))

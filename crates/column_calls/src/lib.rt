@@ -1,5 +1,5 @@
 // From a column's bytes to its call and counts. The windows and the gap tables of the file's rates are
-// built once and lent.
+// built once and borrowed.
 mod columns;
 
 pub use columns::ColumnCall;

@@ -26,7 +26,7 @@ settingsOf bs =
     if eqb (length bs) 3 && leb (byteAt bs 2) 1 then accepted (settingsAt (byteAt bs 0) (byteAt bs 1) (byteAt bs 2))
     else refused BadSettings
 
--- 4: a quality of 255, whatever the base
+-- 4: a quality of 255, beside any base
 unfoldable pub observationVerdict : Observation → Verdict
 observationVerdict o =
     if eqb (o .quality) 255 then Refused AbsentQuality

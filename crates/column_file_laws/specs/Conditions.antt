@@ -17,7 +17,7 @@ use Rattle.column_file.specs.Reading.{readFile}
 abbrev pub isSettings : List ℕ → Bool
 isSettings bs = eqb (length bs) 3 && leb (byteAt bs 2) 1
 
--- a quality of 255, whatever the base
+-- a quality of 255, beside any base
 abbrev pub isAbsent : Observation → Bool
 isAbsent o = eqb (o .quality) 255
 

@@ -1,4 +1,4 @@
--- What the functions reply, and what the lent buffer holds afterwards.
+-- What the functions reply, and what the borrowed buffer holds afterwards.
 use Prim.Native.Nat.{ℕ}
 use mathlib.Core.List.{List}
 use lib.Dec.{ltb, leb}

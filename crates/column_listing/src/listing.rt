@@ -1,4 +1,4 @@
-// The listing of a file, into a lent buffer.
+// The listing of a file, into a borrowed buffer.
 ghost use mathlib.Core.Path.{_≡_};
 ghost use Prim.Native.Nat.{_+_, _*_, _≤_, _<_};
 ghost use lib.Dec.{leb};
@@ -38,8 +38,8 @@ pub enum Outcome {
     Written(usize),
 }
 
-// Whether so many bytes hold the text. Where they hold the longest that so many columns can have, it
-// need not be measured; else it is printed into no room at all, and only counted.
+// Whether `room` bytes hold the text. Where they hold the longest text that `count` columns can have, it
+// need not be measured; otherwise it is printed into an empty buffer, and only counted.
 fn fits(
     room: usize,
     file: &[u8],

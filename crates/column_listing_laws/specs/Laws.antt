@@ -37,7 +37,7 @@ pub record OneLineEach (f : File) (u : Found) : Type 0 where
   -- and is one line unless the consensus itself has a newline, whose bytes are free
   pub last-line : any isNewline (u .text) ≡ false → isLine (lineAt f u (length (f .columns) + 1)) ≡ true
 
--- so many bytes hold every listing
+-- this number of bytes holds every listing
 abbrev pub longest : ℕ
 longest = 2400000
 

@@ -1,4 +1,4 @@
-// The records of a file, into a lent buffer.
+// The records of a file, into a borrowed buffer.
 ghost use mathlib.Core.Path.{_≡_};
 ghost use Prim.Native.Nat.{_-_, _<_};
 ghost use lib.ListN.{length};

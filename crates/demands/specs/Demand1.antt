@@ -21,7 +21,7 @@ abbrev pub duplexText : FoundDuplex → List ℕ
 duplexText d = d .found .text
 
 pub record Demand1 : Type 0 where
-  -- A call is A, C, G or T with a quality from 2 to 93, or N with 2: of any builder whatever, with the tables of any pre-UMI rate.
+  -- A call is A, C, G or T with a quality from 2 to 93, or N with 2: for any builder, with the tables of any pre-UMI rate.
   pub calls : (pre : ℕ) (b : ConsensusBaseBuilder) → GoodCalls pre b
   -- Every byte is accepted by a builder of any rates, at every quality, but for 11: a base that meets 4,294,967,295 counted bases or more.
   pub bases : (base : ℕ) (b : ConsensusBaseBuilder) → AddConditions base b
@@ -38,5 +38,5 @@ pub record Demand1 : Type 0 where
   pub files : (s : List ℕ) → FileConditions s
   -- Its listing is refused by these, then by 7 to 9 of its strings, and by 10 last.
   pub listings : (s out : List ℕ) → ListingConditions s out
-  -- A refusal leaves the caller with its builder and every lent buffer as they were; for 11 the builder, by `bases`.
+  -- A refusal leaves the caller with its builder and every borrowed buffer as they were; for 11 the builder, by `bases`.
   pub unchanged : (r : Refusal) → Unchanged r

@@ -52,7 +52,7 @@ pub record ListingConditions (s out : List ℕ) : Type 0 where
   pub accepted-else : (f : File) → readFile s ≡ accepted f → consensusVerdict (f .strings) ≡ Sound
       → length (listingOf s) ≤ length out → listedIn s out ≡ accepted (listingOf s)
 
--- whatever is refused, everything lent is as it was
+-- a refusal leaves everything borrowed as it was
 pub record Unchanged (r : Refusal) : Type 0 where
   -- the caller with its builder, and the buffer for its answer
   pub caller : (c : SimpleConsensusCaller) (said : Result Found) → said ≡ refused r → callerAfter c said ≡ c

@@ -1,4 +1,4 @@
--- Bytes in a lent buffer.
+-- Bytes in a borrowed buffer.
 use Prim.Native.Nat.{ℕ, _+_}
 use mathlib.Core.Path.{_≡_}
 use mathlib.Core.List.{List}

@@ -1,4 +1,4 @@
-// Bytes put into a lent buffer at a place. Each gives the next place.
+// Bytes put into a borrowed buffer at a place. Each gives the next place.
 ghost use mathlib.Core.Path.{_≡_};
 ghost use mathlib.Core.List.{[], _∷_};
 ghost use Prim.Native.Nat.{_+_, _≤_, _<_};
@@ -14,7 +14,7 @@ pub(crate) fn put_byte(out: &mut [u8], at: usize, b: u8) -> usize
     at + 1
 }
 
-// A number as so many bytes, the low byte first.
+// A number as `width` bytes, the low byte first.
 pub(crate) fn put_number(out: &mut [u8], at: usize, n: u64, width: usize) -> usize
     requires { ⌜ at + width ≤ length (now out) ⌝ }
     ensures { λ r. ⌜ Put (now (out .entry)) at (numberBytes width n) (now (out .exit)) r ⌝ }

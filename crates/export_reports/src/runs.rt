@@ -20,7 +20,7 @@ use phred::PhredScore;
 use rate_tables::AdjustedProbabilityTables;
 use tie_rules::rule_of;
 
-// The reports of all items, one after another. The tables are lent: a copy at each item would cost
+// The reports of all items, one after another. The tables are borrowed: a copy at each item would cost
 // more than the item. Ways that take them by value copy them, as that is what they are here to run.
 fn put_reports(
     way: Way,
@@ -142,7 +142,7 @@ pub fn history_by(
     )
 }
 
-// With the tables lent.
+// With the tables borrowed.
 pub fn history(pre: PhredScore, post: PhredScore, rule: u8, script: &[u8], out: &mut [u8]) -> u64
     ensures reply { λ r. ⌜ r ≡ lengthWritten (historyBytes (pre .0) (post .0) rule (now (script .entry))) (now (out .entry)) ⌝ }
     ensures lent { λ _. ⌜ now (out .exit) ≡ written (historyBytes (pre .0) (post .0) rule (now (script .entry))) (now (out .entry)) ⌝ }

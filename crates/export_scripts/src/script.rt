@@ -77,7 +77,7 @@ pub fn refusals_after(answer: Answer, n: u8) -> u8
     }
 }
 
-// What an item does. The tables are lent, as a script has many.
+// What an item does. The tables are borrowed, as a script has many.
 pub fn pass(
     progress: Progress,
     kind: u8,

@@ -14,7 +14,7 @@ unfoldable pub columnAmounts : Settings → List (List Observation) → ℕ
 columnAmounts g [] = 0
 columnAmounts g (c ∷ cs) = amountOf (columnCall g c) + columnAmounts g cs
 
--- so many times, in 64 bits; 0 for a refused file
+-- that number of times, in 64 bits; 0 for a refused file
 abbrev pub callsIn : Result File → ℕ → ℕ
 callsIn (refused r) times = 0
 callsIn (accepted f) times = times * columnAmounts (f .settings) (f .columns) % 2 ^ 64

@@ -33,7 +33,7 @@ unfoldable pub amounts : AdjustedProbabilityTables → UnanimousGapTables → Li
 amounts t g [] b = 0
 amounts t g (i ∷ is) b = amountAt g i b + amounts t g is (stepped t i b)
 
--- so many runs of a script, each from a new builder, in 64 bits; 0 where rule or script is bad
+-- a number of runs of a script, each from a new builder, in 64 bits; 0 where rule or script is bad
 unfoldable pub timesOf : ℕ → ℕ → ℕ → List ℕ → ℕ → ℕ
 timesOf pre post rule script times =
     if leb rule 1 && isScript 4 script then times * amounts (adjustedTables post) (gapTables pre) (items script) (withTieRule (ruleOf rule) (newAt pre)) % 2 ^ 64

@@ -106,7 +106,7 @@ fn times_accepted(file: &[u8], places: Places, times: u32) -> u64
     )
 }
 
-// All bases and qualities of the columns, called so many times and added up; 0 for a refused file.
+// All bases and qualities of the columns, called that number of times and added up; 0 for a refused file.
 pub fn calls(file: &[u8], times: u32) -> u64
     ensures { λ r. ⌜ r ≡ callsOf (now (file .entry)) times ⌝ }
 {

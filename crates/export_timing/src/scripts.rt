@@ -1,4 +1,4 @@
-// A script that is run many times, for timing: the tables are built once and lent, and no report is
+// A script that is run many times, for timing: the tables are built once and borrowed, and no report is
 // written.
 ghost use mathlib.Core.Path.{_≡_};
 ghost use Prim.Native.Nat.{_+_, _*_, _%_, _^_};
@@ -119,7 +119,7 @@ fn add_runs(
     sum
 }
 
-// All bases and qualities that so many runs call, added up.
+// All bases and qualities that the runs call, added up.
 pub fn times(pre: PhredScore, post: PhredScore, rule: u8, script: &[u8], times: u32) -> u64
     ensures { λ r. ⌜ r ≡ timesOf (pre .0) (post .0) rule (now (script .entry)) times ⌝ }
 {

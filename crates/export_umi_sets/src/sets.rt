@@ -1,4 +1,4 @@
-// What the sets are answered, into a lent buffer.
+// What the sets are answered, into a borrowed buffer.
 ghost use mathlib.Core.Path.{_≡_};
 ghost use Rattle.lent_bytes.specs.Buffer.{lengthWritten, written};
 ghost use Rattle.lent_text.specs.Printed.{Printed};

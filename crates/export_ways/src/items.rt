@@ -14,11 +14,11 @@ use tie_rules::TieRule;
 use tie_rules::rule_of;
 
 pub enum Way {
-    // Tables lent at each call.
+    // Tables borrowed at each call.
     LentTables,
     // Tables and builder by value.
     ByValue,
-    // Tables by value, and the builder lent by &mut.
+    // Tables by value, and the builder borrowed by &mut.
     LentBuilder,
 }
 
@@ -91,7 +91,7 @@ fn pass_by_value(
     }
 }
 
-// What an item does, whatever the way.
+// What an item does, in each of the ways.
 pub fn pass_by(
     way: Way,
     progress: Progress,

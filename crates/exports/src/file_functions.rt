@@ -37,7 +37,7 @@ pub extern "C" fn consensus_records(file: &[u8], out: &mut [u8]) -> u64
     export_listing::records(file, out)
 }
 
-// For timing: every column called so many times, all bases and qualities added up.
+// For timing: every column called that number of times, all bases and qualities added up.
 #[no_mangle]
 pub extern "C" fn consensus_calls(file: &[u8], times: u32) -> u64
     ensures { λ r. ⌜ r ≡ callsOf (now (file .entry)) times ⌝ }

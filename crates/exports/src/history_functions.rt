@@ -40,7 +40,7 @@ pub extern "C" fn consensus_history_by_value(
     export_reports::history_by(way, PhredScore(pre), PhredScore(post), rule, script, out)
 }
 
-// The same by those that are lent the builder by &mut.
+// The same by those that are borrowed the builder by &mut.
 #[no_mangle]
 pub extern "C" fn consensus_history_lent(
     pre: u8,
@@ -72,7 +72,7 @@ pub extern "C" fn consensus_builder(
     export_reports::from_state(PhredScore(pre), PhredScore(post), rule, state, script, out)
 }
 
-// For timing: so many runs, each on a new builder.
+// For timing: a number of runs, each on a new builder.
 #[no_mangle]
 pub extern "C" fn consensus_history_times(
     pre: u8,

@@ -1,4 +1,4 @@
-// The builder lent by &mut: three thin functions over the by-value ones of base_builder. Above each
+// The builder borrowed by &mut: three thin functions over the by-value ones of base_builder. Above each
 // stands one that takes and gives the builder by value, so that its callers need no proof by hand.
 ghost use mathlib.Core.Path.{_≡_};
 ghost use Rattle.base_builder.specs.Builder.{withTieRule, resetOf, added, answerOf, addNumber, refusalOf};
@@ -39,7 +39,7 @@ pub fn set_tie_rule(builder: &mut ConsensusBaseBuilder, rule: TieRule)
     *builder = (*builder).set_tie_rule(rule);
 }
 
-// `add`, lent a local.
+// `add`, given a local.
 pub fn add_in_place(
     builder: ConsensusBaseBuilder,
     base: u8,
@@ -58,7 +58,7 @@ pub fn add_in_place(
     }
 }
 
-// `reset`, lent a local.
+// `reset`, given a local.
 pub fn reset_in_place(builder: ConsensusBaseBuilder) -> ConsensusBaseBuilder
     ensures { λ r. ⌜ r ≡ resetOf builder ⌝ }
 {
@@ -67,7 +67,7 @@ pub fn reset_in_place(builder: ConsensusBaseBuilder) -> ConsensusBaseBuilder
     lent
 }
 
-// `set_tie_rule`, lent a local.
+// `set_tie_rule`, given a local.
 pub fn set_tie_rule_in_place(builder: ConsensusBaseBuilder, rule: TieRule) -> ConsensusBaseBuilder
     ensures { λ r. ⌜ r ≡ withTieRule rule builder ⌝ }
 {

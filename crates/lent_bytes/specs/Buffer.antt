@@ -1,4 +1,4 @@
--- What a lent buffer holds afterwards.
+-- What a borrowed buffer holds afterwards.
 use Prim.Native.Nat.{ℕ}
 use mathlib.Core.List.{List, _++_}
 use lib.Dec.{leb}

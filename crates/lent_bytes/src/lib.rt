@@ -1,4 +1,4 @@
-// Bytes compared, numbers read from bytes, and bytes put at the front of a lent buffer.
+// Bytes compared, numbers read from bytes, and bytes put at the front of a borrowed buffer.
 ghost use mathlib.Core.Path.{_≡_};
 ghost use mathlib.Core.List.{_++_};
 ghost use Prim.Native.Nat.{_+_, _≤_, _<_};

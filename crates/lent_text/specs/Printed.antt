@@ -1,4 +1,4 @@
--- A text printed into a lent buffer.
+-- A text printed into a borrowed buffer.
 use Prim.Native.Nat.{ℕ, _+_, _≤_, min}
 use mathlib.Core.Path.{_≡_}
 use mathlib.Core.List.{List}

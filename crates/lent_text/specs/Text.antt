@@ -22,7 +22,7 @@ newline = 10
 abbrev pub isDigit : ℕ → Bool
 isDigit x = leb 48 x && leb x 57
 
--- the last digits of a number, at most so many, with no zero in front
+-- the last digits of a number, at most as many as the first argument says, with no zero in front
 unfoldable pub digits : ℕ → ℕ → List ℕ
 digits zero n = []
 digits (suc most) n =

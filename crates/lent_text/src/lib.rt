@@ -1,4 +1,4 @@
-// Text and numbers printed into a lent buffer from a place on. Each function gives the next place. What lies past
+// Text and numbers printed into a borrowed buffer from a place on. Each function gives the next place. What lies past
 // the buffer's end is counted and not written, so that one function both measures and writes.
 ghost use mathlib.Core.List.{[], _∷_};
 ghost use Rattle.lent_bytes.specs.Bytes.{fourBytes};

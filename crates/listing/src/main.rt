@@ -14,7 +14,7 @@ enum Input {
     Failed,
 }
 
-// The rooms are made in functions of their own, so that no proof meets so many zeros.
+// The rooms are made in functions of their own, so that no proof meets that many zeros.
 fn input_room() -> [u8; INPUT_ROOM]
     ensures { λ r. do ⌜ (← ⟦INPUT_ROOM⟧ .entry) ≡ length r ⌝ }
 {

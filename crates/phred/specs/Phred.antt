@@ -133,7 +133,7 @@ lnErrorProbTwoTrials p q =
     if lt p q then twoTrials q p
     else twoTrials p q
 
--- every lane is -infinity, as of none
+-- every lane is -infinity, which holds where there is none
 unfoldable pub allLnZero : List Float → Bool
 allLnZero [] = true
 allLnZero (x ∷ xs) = eq x lnZero && allLnZero xs

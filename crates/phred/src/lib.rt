@@ -208,7 +208,7 @@ fn ln_sum_exp_from(values: &[f64], start: usize) -> f64
     ln_sum_exp_fold(before, &values[start + 1..])
 }
 
-// Whether every lane is -infinity, as of none.
+// Whether every lane is -infinity, which holds where there is none.
 fn all_ln_zero(values: &[f64]) -> bool
     ensures { λ r. ⌜ r ≡ allLnZero (now (values .entry)) ⌝ }
 {

@@ -25,8 +25,8 @@ fn print_front(room: &[u8], read: usize, text: &mut [u8]) -> usize
     column_listing::print(room, text)
 }
 
-// What the program prints for a stream of which so many bytes were read into the room, and how long
-// that is. Whatever follows in the stream changes nothing, and every listing has room.
+// What the program prints for a stream whose first `read` bytes are in the room, and how long that is.
+// What follows in the stream changes nothing, and every listing has room.
 pub fn print_stream(room: &[u8; INPUT_ROOM], read: usize, text: &mut [u8; TEXT_ROOM]) -> usize
     ensures reply { λ r. ⌜ r ≡ length (listingOf (take read (now (room .entry)))) ⌝ }
     ensures lent { λ _. ⌜ now (text .exit) ≡ onto (listingOf (take read (now (room .entry)))) (now (text .entry)) ⌝ }

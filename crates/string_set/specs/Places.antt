@@ -31,7 +31,7 @@ placesFrom at (t ∷ l) = at ∷ placesFrom (at + 1 + length t) l
 abbrev pub placesOf : List (List ℕ) → List ℕ
 placesOf l = placesFrom 1 l
 
--- what lent places hold afterwards: those of the strings and then what was there, or, where the set is refused, what was there
+-- what borrowed places hold afterwards: those of the strings and then what was there, or, where the set is refused, what was there
 abbrev pub placesAfter : Result (List (List ℕ)) → List ℕ → List ℕ
 placesAfter (refused r) ps = ps
 placesAfter (accepted l) ps = placesOf l ++ drop (length l) ps

@@ -24,7 +24,7 @@ pub struct StringSet {
     pub places: [usize; 255],
 }
 
-// What is said of a set. Nothing is written yet, as a refusal leaves what is lent.
+// What is said of a set. Nothing is written yet, as a refusal leaves what is borrowed.
 fn judge(set: &[u8]) -> Reading
     ensures reading { λ r. ⌜ r ≡ readingOf (readSet (now (set .entry))) ⌝ }
     ensures few { λ r. ⌜ readingCount r ≤ 255 ⌝ }
@@ -70,7 +70,7 @@ fn place(set: &[u8], n: usize, places: &mut [usize])
     }
 }
 
-// Reads a lone set: how many strings there are, and into lent places where each is. What lies beyond
+// Reads a lone set: how many strings there are, and into borrowed places where each is. What lies beyond
 // these stays, and so do all of them where the set is refused.
 pub fn read_places(set: &[u8], places: &mut [usize; 255]) -> Reading
     ensures reading { λ r. ⌜ r ≡ readingOf (readSet (now (set .entry))) ⌝ }

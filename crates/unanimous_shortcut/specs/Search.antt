@@ -11,7 +11,7 @@ use Rattle.words.specs.Choice.{if_then_else_}
 abbrev pub entry : List Float → ℕ → Float
 entry xs q = getD xs q nan
 
--- one step: s entries further on, where the table has so many and the last of them is at or below the gap
+-- one step: s entries further on, where the table has that many and the last of them is at or below the gap
 unfoldable pub advanced : List Float → Float → ℕ → ℕ → ℕ
 advanced thresholds gap p s =
     if leb (p + s) 94 && le (entry thresholds (p + s - 1)) gap then p + s

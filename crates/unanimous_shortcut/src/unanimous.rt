@@ -24,7 +24,7 @@ fn seen(n: u32) -> usize
     0
 }
 
-// The lane that alone was observed, or NO_LANE. By sums: no branch hangs on which lane it is.
+// The lane that alone was observed, or NO_LANE. By sums: no branch depends on which lane it is.
 pub fn sole_lane(observations: [u32; 4]) -> usize
     ensures { λ r. ⌜ r ≡ soleLane observations ⌝ }
 {
