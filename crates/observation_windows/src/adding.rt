@@ -10,7 +10,7 @@ use base_builder::observed;
 use base_builder::total;
 use phred::PhredScore;
 use tie_rules::is_base;
-use tie_rules::lane_by_bits;
+use tie_rules::lanes_after;
 
 // How many bases more can be counted.
 fn room(observations: [u32; 4]) -> u64
@@ -56,9 +56,10 @@ pub fn add_observations(
             if left == 0 {
                 return after;
             }
-            let k = lane_by_bits(base);
+            let start = lanes_after(base);
+            let k = 3 - start;
             let q = entry(PhredScore(observations[i + 1]));
-            after = step(after, rows, 8 * q + (3 - k), k);
+            after = step(after, rows, 8 * q + start, k);
             left -= 1;
         }
         i += 2;

@@ -20,12 +20,16 @@ pub fn window_of(correct: f64, error_per_alt: f64) -> [f64; 8]
     ]
 }
 
+// The place of the window of a quality, which is not made for it.
 fn window_entry(i: usize, correct: &[f64; 94], error_per_alt: &[f64; 94]) -> f64
     requires { ⌜ i < 752 ⌝ }
     ensures { λ r. ⌜ r ≡ windowEntry (now (correct .entry)) (now («error_per_alt» .entry)) i ⌝ }
 {
-    let window = window_of(correct[i / 8], error_per_alt[i / 8]);
-    window[i % 8]
+    let q = i / 8;
+    if i % 8 == 3 {
+        return correct[q];
+    }
+    error_per_alt[q]
 }
 
 // The window of each quality, one after another.

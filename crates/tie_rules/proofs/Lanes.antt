@@ -2,7 +2,7 @@
 use mathlib.Core.Path.{_≡_, refl, ap, _∙_, subst}
 use mathlib.Core.Bool.{Bool, true, false, _||_}
 use mathlib.Core.Logic.{inl, inr, ⊎-elim}
-use Prim.Native.Nat.{ℕ, zero, suc, _+_, _≤_, _<_}
+use Prim.Native.Nat.{ℕ, zero, suc, _+_, _-_, _≤_, _<_}
 use native.Mathlib.Nat.{eq-or-lt-of-le, le-of-suc-le-suc, not-suc-le-zero}
 use native.Mathlib.Numerals.{add-one}
 use native.Mathlib.Omega.{arith}
@@ -11,7 +11,7 @@ use lib.Dec.{eqb}
 use lib.ListN.{getD}
 use Rattle.words.specs.Choice.{if_then_else_}
 use Rattle.words.proofs.Cases.{both, and-false}
-use Rattle.tie_rules.specs.Lanes.{lanes, noLane, laneOfByte, isBase, laneByBits}
+use Rattle.tie_rules.specs.Lanes.{lanes, noLane, laneOfByte, isBase, lanesAfter}
 use Rattle.words.specs.Claims.{allBelow}
 
 -- one more lane of which the claim holds
@@ -76,15 +76,15 @@ lane-of-byte x = first-of (eqb x 65 || eqb x 97) (eqb x 67 || eqb x 99) (eqb x 7
 pub in-lane : (x : ℕ) → eqb (laneOfByte x) noLane ≡ false → laneOfByte x < 4
 in-lane x t = omega (arith, lane-of-byte x, eqb-false (laneOfByte x) noLane t)
 
--- a byte has no lane, or the one that its bits say
+-- a byte has no lane, or as many come after its lane as its bits say
 bits-right : ℕ → Bool
-bits-right x = eqb (laneOfByte x) noLane || eqb (laneByBits x) (laneOfByte x)
+bits-right x = eqb (laneOfByte x) noLane || eqb (lanesAfter x) (3 - laneOfByte x)
 
 -- computed for each byte
 all-right : allBelow 256 bits-right ≡ true
-unfolding allBelow bits-right laneOfByte laneByBits
+unfolding allBelow bits-right laneOfByte lanesAfter
 all-right = refl
 
-pub lane-bits : (x : ℕ) → x < 256 → isBase x ≡ true → laneByBits x ≡ laneOfByte x
+pub after-base : (x : ℕ) → x < 256 → isBase x ≡ true → lanesAfter x ≡ 3 - laneOfByte x
 unfolding bits-right
-lane-bits x h n = eqb-true (laneByBits x) (laneOfByte x) (rw (not-true (eqb (laneOfByte x) noLane) n) at (below-at 256 bits-right x all-right h))
+after-base x h n = eqb-true (lanesAfter x) (3 - laneOfByte x) (rw (not-true (eqb (laneOfByte x) noLane) n) at (below-at 256 bits-right x all-right h))

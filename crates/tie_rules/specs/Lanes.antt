@@ -36,12 +36,12 @@ laneOfByte x =
 abbrev pub isBase : ℕ → Bool
 isBase x = not (eqb (laneOfByte x) noLane)
 
--- the lane of the base that has two bits of a byte: they are 0, 1, 3 and 2 in A, C, G and T of either case
-unfoldable pub laneByBits : ℕ → ℕ
-laneByBits x =
+-- how many lanes come after that of the base with two bits of a byte: these are 0, 1, 3 and 2 in A, C, G and T of either case
+unfoldable pub lanesAfter : ℕ → ℕ
+lanesAfter x =
     let bits = x / 2 % 4 in
-    if ltb bits 2 then bits
-    else 5 - bits
+    if ltb bits 2 then 3 - bits
+    else bits - 2
 
 -- the base of a lane, and N for no lane
 unfoldable pub baseOf : ℕ → ℕ

@@ -1,8 +1,8 @@
 // The four lanes, one for each of A, C, G and T, in this order.
 ghost use mathlib.Core.Path.{_≡_};
 ghost use mathlib.Core.Bool.{true};
-ghost use Prim.Native.Nat.{_<_};
-ghost use Rattle.tie_rules.specs.Lanes.{laneOfByte, isBase, laneByBits, baseOf};
+ghost use Prim.Native.Nat.{_-_, _<_};
+ghost use Rattle.tie_rules.specs.Lanes.{laneOfByte, isBase, lanesAfter, baseOf};
 
 // The number that says that there is no lane.
 pub const NO_LANE: usize = 4;
@@ -30,17 +30,18 @@ pub fn is_base(byte: u8) -> bool
     }
 }
 
-// The lane of a base by two bits of its byte, with no jump. A byte that is no base gets a lane, too.
-pub fn lane_by_bits(byte: u8) -> usize
-    ensures bits { λ r. ⌜ r ≡ laneByBits byte ⌝ }
-    ensures lane { λ r. ⌜ (isBase byte ≡ true → r ≡ laneOfByte byte) ⌝ }
+// How many lanes come after a base's, by two bits of its byte, with no jump. A byte that is no base gets
+// a number, too.
+pub fn lanes_after(byte: u8) -> usize
+    ensures bits { λ r. ⌜ r ≡ lanesAfter byte ⌝ }
+    ensures base { λ r. ⌜ (isBase byte ≡ true → r ≡ 3 - laneOfByte byte) ⌝ }
     ensures inside { λ r. ⌜ r < 4 ⌝ }
 {
     let bits = byte / 2 % 4;
     if bits < 2 {
-        return bits as usize;
+        return (3 - bits) as usize;
     }
-    (5 - bits) as usize
+    (bits - 2) as usize
 }
 
 // The base of a lane, and N for NO_LANE: the source's DNA_BASES.

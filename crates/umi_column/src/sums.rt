@@ -4,7 +4,7 @@ ghost use Rattle.umi_column.specs.Sums.{noSums, summedBy};
 use lane_sums::LaneSums;
 use lane_sums::moved_lanes;
 use tie_rules::is_base;
-use tie_rules::lane_by_bits;
+use tie_rules::lanes_after;
 
 // Before the first byte.
 pub fn no_sums() -> LaneSums
@@ -23,7 +23,7 @@ pub fn add_base(sums: LaneSums, window: &[f64; 8], byte: u8) -> LaneSums
     if !is_base(byte) {
         return sums;
     }
-    let start = 3 - lane_by_bits(byte);
+    let start = lanes_after(byte);
     let values = [
         window[start],
         window[start + 1],

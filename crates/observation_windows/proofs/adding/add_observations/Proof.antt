@@ -9,6 +9,7 @@ use borrow.Author.Tests.{not-true, not-false}
 use lib.ListN.{length, getD, drop}
 use Rattle.base_builder.specs.Builder.{total, fullCount}
 use Rattle.tie_rules.specs.Lanes.{laneOfByte}
+use Rattle.tie_rules.proofs.Lanes.{in-lane}
 use Rattle.observation_windows.specs.Windows.{windowAt, windowObserved, allAdded}
 use Rattle.observation_windows.proofs.Turns.{all-done, ignored, stays, room-less, observed}
 use Rattle.observation_windows.proofs.adding.add_observations.Statement.{statement}
@@ -46,8 +47,10 @@ loop-again c =
     (λ w.
     let n = not-true _ (sym is-base ∙ w .0 .taken) in
     let k = laneOfByte (getD s (l .i) 0) in
+    let start = w .2 .ensures .1 .0 (sym is-base ∙ w .0 .taken) in
+    let lane : 3 - w .2 .result ≡ k = omega (arith, start, in-lane (getD s (l .i) 0) n) in
     let o : c .if1 .after ≡ windowObserved rows (windowAt (getD s (l .i + 1) 0) k) k (l .after) =
-    w .7 ∙ rw (← w .4 .ensures, ← w .2 .ensures .1 .0 (sym is-base ∙ w .0 .taken)) (w .5 .ensures) in (
+    w .7 ∙ rw (← w .4 .ensures, ← start, ← lane) (w .5 .ensures) in (
       omega arith,
       w .6 ∙ room-less rows s (l .i) (l .after) (l .left) (l .inv .1) n (w .1 .left) (c .if1 .after) o,
       observed rows s (l .i) (l .after) (l .left) (l .inv .1) n (w .1 .left) (c .if1 .after) o inside ∙ l .inv .2,
@@ -75,9 +78,9 @@ add-observations-spec =
     loop-holds
     (λ c. search needs) (λ c. search needs) (λ c κs. search needs)
     returns
-    (λ c κs. search needs)
+    (λ c κs. search needs) (λ c. search needs)
     (λ c. search needs) (λ c. search needs) (λ c κs. search needs) (λ c. search needs)
-    (λ c. search needs) (λ c. search needs) (λ c κs. search needs) (λ c. search needs)
+    (λ c. search needs) (λ c κs. search needs) (λ c. search needs)
     (λ c. search needs) (λ c. search needs)
     loop-again
     returns-2)

@@ -17,7 +17,7 @@ unfolding summedBy lanes
 returns-2 c =
     let at-lane = c .before .before .before .before .before in
     let base = sym (at-lane .before .before .is-base .ensures) ∙ not-false _ (at-lane .before .if1 .left) in
-    rw (base, ← at-lane .lane-by-bits .ensures .1 .0 base, add-zero) (c .moved-lanes .ensures)
+    rw (base, ← at-lane .lanes-after .ensures .1 .0 base, add-zero) (c .moved-lanes .ensures)
 
 pub add-base-spec : {M : Type 1} → statement M
 add-base-spec =
