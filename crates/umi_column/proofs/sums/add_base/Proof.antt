@@ -1,4 +1,4 @@
--- `add_base`: a byte that is no base, and one that is: what lies in the window from 3 less its lane on is what the definition reads. Assumes nothing.
+-- `add_base`: a byte that is no base, and one that is: what lies in the window from its start on is what the definition reads. Assumes nothing.
 use mathlib.Core.Path.{sym, _∙_}
 use native.Mathlib.Nat.{add-zero}
 use borrow.Author.Needs.{needs}
@@ -15,9 +15,9 @@ returns c = rw (sym (c .before .is-base .ensures) ∙ not-true _ (c .if1 .taken)
 returns-2 : tie.Need-returns-2
 unfolding summedBy lanes
 returns-2 c =
-    let at-lane = c .before .before .before .before .before in
-    let base = sym (at-lane .before .before .is-base .ensures) ∙ not-false _ (at-lane .before .if1 .left) in
-    rw (base, ← at-lane .lanes-after .ensures .1 .0 base, add-zero) (c .moved-lanes .ensures)
+    let at-start = c .before .before .before .before .before in
+    let base = sym (at-start .before .before .is-base .ensures) ∙ not-false _ (at-start .before .if1 .left) in
+    rw (base, ← at-start .lanes-after .ensures .1 .0 base, add-zero) (c .moved-lanes .ensures)
 
 pub add-base-spec : {M : Type 1} → statement M
 add-base-spec =
@@ -28,6 +28,6 @@ add-base-spec =
     (λ c κs. search needs)
     (λ c. search needs) (λ c. search needs) (λ c. search needs) (λ c. search needs)
     (λ c. search needs) (λ c. search needs) (λ c. search needs) (λ c. search needs)
-    (λ c. search needs) (λ c. search needs) (λ c. search needs) (λ c. search needs)
+    (λ c. search needs) (λ c. search needs) (λ c. search needs)
     (λ c κs. search needs)
     returns-2)
