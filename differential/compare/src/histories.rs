@@ -2,7 +2,7 @@
 
 pub mod columns;
 
-use self::columns::{Column, KINDS, drawn_kind};
+use self::columns::{Column, KINDS};
 use crate::builder::cause::{Cause, causes};
 use crate::builder::report::{Field, Report};
 use crate::builder::script::Script;
@@ -64,8 +64,8 @@ impl Drawn {
             Self { settings, script: Script::default(), columns: Vec::new(), places: Vec::new() };
         let mut rule = settings.rule;
         while drawn.columns.len() < COLUMNS {
-            let kind = drawn_kind(random);
-            for column in KINDS[kind].columns(random) {
+            let (kind, columns) = columns::drawn(random);
+            for column in columns {
                 if !drawn.columns.is_empty() {
                     drawn.script.reset(random);
                 }
@@ -122,7 +122,7 @@ impl Tally {
     /// Compares so many histories.
     pub fn of(histories: u64, seed: u64) -> Self {
         let mut tally = Self {
-            kinds: KINDS.iter().map(|kind| Row::new(kind.name)).collect(),
+            kinds: KINDS.iter().map(|(name, ..)| Row::new(*name)).collect(),
             fields: Field::ALL.iter().map(|field| Row::new(field.name())).collect(),
             ways: WAYS.iter().map(|(name, _)| Row::new(*name)).collect(),
             observed: Row::default(),

@@ -50,9 +50,10 @@ pub static KINDS: [(&str, fn(Shape, &mut Random) -> Strings); 10] = [
 ];
 
 /// A set of any kind.
-pub fn any_kind(shape: Shape, random: &mut Random) -> Strings {
-    let kind = random.index(KINDS.len());
-    KINDS[kind].1(shape, random)
+pub fn any_kind(shape: fn(&mut Random) -> Shape, random: &mut Random) -> Strings {
+    let shape = shape(random);
+    let (_, draw) = KINDS[random.index(KINDS.len())];
+    draw(shape, random)
 }
 
 /// Bytes that are no DNA. A slip would take some of them for a base.
