@@ -142,10 +142,7 @@ impl Tally {
 
     fn count(&mut self, kind: usize, run: &Run, rule: u8, ours: &Report, rust: &Report) {
         let of_kind = &mut self.kinds[kind].counts;
-        of_kind.one("reports");
-        of_kind.add("unanimous", rust.replies(Field::Unanimous));
-        of_kind.add("multibase", rust.replies(Field::Multibase));
-        of_kind.add("N called", rust.no_call());
+        rust.count(of_kind);
         let causes = causes(ours, rust, run.settings.pre, rule_of(rule));
         let is_known = !causes.contains(&Cause::Unknown);
         // also where nothing differs: both may have the same wrong answer

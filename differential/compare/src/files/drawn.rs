@@ -15,9 +15,11 @@ const MOST_BYTES: usize = 50_000;
 const ERRORS: u64 = 50;
 const UNREAD: u64 = 60;
 
-/// Ways to draw a file, by name, and how often each is drawn. A sound file costs the most time, since
-/// tables are built for it.
-pub static KINDS: [(&str, usize, fn(&mut Random) -> Made); 14] = [
+/// A way to draw a file, by name, and how often it is drawn.
+type Kind = (&'static str, usize, fn(&mut Random) -> Made);
+
+/// A sound file costs the most time, since tables are built for it.
+pub static KINDS: [Kind; 14] = [
     ("usual columns and UMIs", 2, |random| usual(random).listed()),
     ("columns of every kind", 3, |random| with_any_columns(random).listed()),
     ("strings of every kind", 2, |random| Made::open(with_any_strings(random).bytes())),

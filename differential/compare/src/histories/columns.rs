@@ -8,9 +8,11 @@ use crate::random::Random;
 pub type Observation = (u8, u8);
 pub type Column = Vec<Observation>;
 
-/// Ways to draw a column: the name, how often it is drawn, in how many orders it is observed. A near-tie
-/// depends on the order of the observations, so such columns come in several.
-pub static KINDS: [(&str, u64, usize, fn(&mut Random) -> Column); 11] = [
+/// A way to draw a column, by name: how often it is drawn, and in how many orders it is observed.
+type Kind = (&'static str, u64, usize, fn(&mut Random) -> Column);
+
+/// A near-tie depends on the order of the observations, so such columns come in several orders.
+pub static KINDS: [Kind; 11] = [
     ("nothing, or ignored bytes alone", 1, 1, ignored_alone),
     ("one observation", 4, 1, |random| unanimous(1, random)),
     ("unanimous", 8, 1, |random| unanimous(depth(random), random)),

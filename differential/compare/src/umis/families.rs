@@ -35,8 +35,11 @@ pub fn small_shape(random: &mut Random) -> Shape {
     Shape { strings: random.index(7), length: random.index(10) }
 }
 
-/// Ways to draw a set of about a shape, by name. Two strands are made of the other kinds.
-pub static KINDS: [(&str, fn(Shape, &mut Random) -> Strings); 10] = [
+/// A way to draw a set of about a shape, by name.
+type Kind = (&'static str, fn(Shape, &mut Random) -> Strings);
+
+/// Two strands are made of the other kinds.
+pub static KINDS: [Kind; 10] = [
     ("errors of 0 to 50 percent", with_errors),
     ("errors, N and lower case", disguised),
     ("two halves", |shape, random| parts(2, shape, random)),
