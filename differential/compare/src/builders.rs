@@ -17,9 +17,6 @@ use crate::tally::{Row, print_table, verdict};
 /// How many observations the longest script has; a report counts 255 refused ones at most.
 const REFUSED: usize = 260;
 
-/// How many differences without a known cause are printed.
-const EXAMPLES: usize = 5;
-
 /// What is printed of the states of a kind. Known are those reports that differ whose causes all are.
 const HEAD: &str = "state | builders | reports | unanimous | multibase | N called | differ | known";
 
@@ -40,13 +37,13 @@ pub fn run(builders: u64, seed: u64) -> bool {
 /// Reports under both rules and after an observation.
 fn short_script() -> Script {
     let bytes = [[REPORT, 0, 0], [RULE, 1, 0], [REPORT, 0, 0], [ADD, b'A', 30], [REPORT, 0, 0]];
-    Script { bytes: bytes.concat(), reports: 3 }
+    Script { bytes: bytes.concat() }
 }
 
 /// More observations than a report's count of those that are refused can tell.
 fn long_script() -> Script {
     let events = [[ADD, b'A', 30], [REPORT, 0, 0]];
-    Script { bytes: events.concat().repeat(REFUSED), reports: REFUSED }
+    Script { bytes: events.concat().repeat(REFUSED) }
 }
 
 /// Reports under both rules, then some observations with a report after each, sometimes a reset.
@@ -73,33 +70,38 @@ fn script(mut rule: u8, random: &mut Random) -> Script {
 pub struct Tally {
     /// By the kinds of the states, those that are chosen last.
     kinds: Vec<Row>,
-    /// The causes that are known, and the builders for which there are no reports to compare.
-    pub all: Row,
+    /// The causes that are known.
+    known: Row,
     /// What the builders have counted.
     observed: Row,
     /// Builders that refused observations; reports of counts whose total is 2^32 or more. There the
     /// Rust's `add` and `contributions` panic in a debug build and wrap in a release build, as this is.
     refused: Row,
     wrapped: Row,
-    /// Reports that differ for no known cause by their fields, and the first ones.
+    /// Reports that differ for no known cause by their fields; those that do in none, but are not as
+    /// the formulas have them; and builders for which there are no reports to compare.
     unknown: Vec<Row>,
-    examples: Vec<String>,
 }
+
+/// The places of the last two.
+const NO_FIELD: usize = Field::ALL.len();
+const NO_REPORTS: usize = NO_FIELD + 1;
 
 impl Default for Tally {
     fn default() -> Self {
         let names = KINDS.iter().map(|(name, _)| *name).chain(["chosen one by one"]);
-        let mut all = Row::default();
+        let mut known = Row::default();
         // each has its line, also where it does not occur
-        all.known = Cause::known().into_iter().map(|cause| Row::new(cause.name())).collect();
+        known.known = Cause::known().into_iter().map(|cause| Row::new(cause.name())).collect();
+        let unknown = Field::ALL.iter().map(|field| field.name());
+        let unknown = unknown.chain(["the same on both sides", "without the bytes of reports"]);
         Self {
             kinds: names.map(Row::new).collect(),
-            all,
+            known,
             observed: Row::default(),
             refused: Row::default(),
             wrapped: Row::default(),
-            unknown: Field::ALL.iter().map(|field| Row::new(field.name())).collect(),
-            examples: Vec::new(),
+            unknown: unknown.map(Row::new).collect(),
         }
     }
 }
@@ -124,11 +126,11 @@ impl Tally {
         let observed = &mut self.observed;
         let rust =
             run.rust_seen(|builder, report| observed::compare(builder, report, settings, observed));
-        let ours = match run.ours(script.reports) {
+        let ours = match run.ours(rust.len()) {
             Ok(ours) => ours,
             Err(problem) => {
-                self.all.counts.one("failed");
-                return self.keep(&run, &problem);
+                let words = || format!("{problem}: {run}");
+                return self.unknown[NO_REPORTS].differs(script.bytes.len(), words);
             }
         };
         let rules = rules_at_reports(settings.rule, &script.bytes);
@@ -140,10 +142,7 @@ impl Tally {
 
     fn count(&mut self, kind: usize, run: &Run, rule: u8, ours: &Report, rust: &Report) {
         let of_kind = &mut self.kinds[kind].counts;
-        of_kind.one("reports");
-        of_kind.add("unanimous", rust.replies(Field::Unanimous));
-        of_kind.add("multibase", rust.replies(Field::Multibase));
-        of_kind.add("N called", rust.no_call());
+        rust.count(of_kind);
         let causes = causes(ours, rust, run.settings.pre, rule_of(rule));
         let is_known = !causes.contains(&Cause::Unknown);
         // also where nothing differs: both may have the same wrong answer
@@ -156,15 +155,15 @@ impl Tally {
             let another_call = ours.field(Field::Call) != rust.field(Field::Call);
             let example = || example(Settings { rule, ..run.settings }, ours, rust);
             let causes = causes.into_iter();
-            return causes.for_each(|cause| self.all.knows(&cause.name(), another_call, example));
+            return causes.for_each(|cause| self.known.knows(&cause.name(), another_call, example));
         }
+        let words = || format!("{}: {run}", difference(ours, rust));
         for field in ours.differing(rust) {
-            self.unknown[field as usize].counts.one("differ");
+            self.unknown[field as usize].differs(run.script.len(), words);
         }
         if ours == rust {
-            self.keep(run, "the same on both sides, but not as the formulas have it");
-        } else {
-            self.keep(run, &difference(ours, rust));
+            let words = || format!("not as the formulas have it: {run}");
+            self.unknown[NO_FIELD].differs(run.script.len(), words);
         }
     }
 
@@ -183,28 +182,26 @@ impl Tally {
         }
     }
 
-    fn keep(&mut self, run: &Run, problem: &str) {
-        if self.examples.len() < EXAMPLES {
-            self.examples.push(format!("builders: {problem}: {run}"));
-        }
-    }
-
     /// What differs for no known cause, and how to see it again.
     pub fn examples(&self) -> Vec<String> {
-        let observed = self.observed.example().map(|example| format!("builders: {example}"));
-        self.examples.iter().cloned().chain(observed).collect()
+        let examples = self.unknown.iter().chain([&self.observed]).filter_map(Row::example);
+        examples.map(|example| format!("builders: {example}")).collect()
     }
 
     /// Of all kinds together.
     pub fn sum(&self) -> Row {
-        Row::sum(self.kinds.iter().chain([&self.all]))
+        let mut sum = Row::sum(self.kinds.iter().chain([&self.known]));
+        let otherwise = sum.counts.of("differ") - sum.counts.of("known");
+        sum.counts.add("otherwise", otherwise);
+        sum.counts.add("failed", self.unknown[NO_REPORTS].counts.of("differ"));
+        sum
     }
 
     /// Reports that differ for no known cause, builders without their reports, and those whose counts
     /// differ.
     pub fn unexplained(&self) -> u64 {
         let all = self.sum().counts;
-        all.of("differ") - all.of("known") + all.of("failed") + self.observed.counts.of("differ")
+        all.of("otherwise") + all.of("failed") + self.observed.counts.of("differ")
     }
 
     fn holds(&self) -> bool {
@@ -212,32 +209,28 @@ impl Tally {
     }
 
     fn print(&self) {
-        let mut sum = self.sum();
         print_table(HEAD, &self.kinds);
-        print_table("known difference | reports | another call", &self.all.known);
-        print_known(&self.all);
-        let for_example = |row: &Row| {
-            row.example().map_or(String::new(), |example| format!(", for example {example}"))
+        print_table("known difference | reports | another call", &self.known.known);
+        print_known(&self.known);
+        let tell = |row: &Row, text: &str| {
+            let example = row.example().map(|example| format!(", for example {example}"));
+            row.counts.tell(&(text.to_owned() + &example.unwrap_or_default()));
         };
-        self.refused.counts.tell(
-            &("builders: {refused} builders refused observations (11), which the Rust was spared"
-                .to_owned()
-                + &for_example(&self.refused)),
+        tell(
+            &self.refused,
+            "builders: {refused} builders refused observations (11), which the Rust was spared",
         );
-        self.wrapped.counts.tell(
-            &("builders: {wrapped} reports of counts that total 2^32 or more, {wrapped to 0} of them 0 \
-               by 2^32"
-                .to_owned()
-                + &for_example(&self.wrapped)),
+        tell(
+            &self.wrapped,
+            "builders: {wrapped} reports of counts that total 2^32 or more, {wrapped to 0} of them 0 by \
+             2^32",
         );
         for row in self.unknown.iter().filter(|row| row.counts.of("differ") > 0) {
             let (field, many) = (&row.name, row.counts.of("differ"));
             println!("builders: {field}: {many} reports differ for no known cause");
         }
         self.examples().iter().for_each(|example| println!("{example}"));
-        let otherwise = sum.counts.of("differ") - sum.counts.of("known");
-        sum.counts.add("otherwise", otherwise);
-        sum.counts.tell(
+        self.sum().counts.tell(
             "builders: {builders} builders, {reports} reports; {known} differ for a known cause, \
              {otherwise} otherwise; {failed} builders without the bytes of their reports",
         );

@@ -7,7 +7,6 @@ use crate::tally::Row;
 const GUARD: usize = 8;
 
 /// What is demanded: a reply and what is written, or another reply where there is no room for it.
-#[derive(Clone)]
 pub struct Answer {
     pub reply: u64,
     pub bytes: Vec<u8>,

@@ -146,11 +146,12 @@ fn print(rows: &[Row]) -> bool {
         "files: {how many} files, {list} calls compared: {listed} listed, refused {1} by 1, {2} by 2, {3} \
          by 3, {4} by 4, {7} by 7, {8} by 8, {9} by 9; {differ} differ",
     );
-    for Function { name, by_number, counts: [calls, refused, too_short, written], .. } in &FUNCTIONS
-    {
-        let names = [*refused, *too_short, *written].join(" | ");
+    for (place, function) in FUNCTIONS.iter().enumerate() {
+        let (name, [calls, refused, too_short, written]) = (function.name, function.counts);
+        let names = [refused, too_short, written].join(" | ");
         demanded &= counts.all_demanded("files: never demanded", &names);
-        if *by_number {
+        // of the first one all that is above tells
+        if place > 0 {
             counts.tell(&format!(
                 "files: {name} beside the same texts, {{{calls}}} calls: {{{refused}}} refused by the \
                  number, {{{too_short}}} by 10; differences are counted above"
@@ -208,7 +209,7 @@ impl Row {
             Ok(listed) => self.count_listed(listed),
             Err(number) => self.counts.number(*number),
         }
-        let answers = FUNCTIONS.iter().map(|function| function.answer(&found)).collect();
+        let answers = FUNCTIONS.iter().map(|function| (function.answer)(&found)).collect();
         Some(Asked { file, found, answers })
     }
 
@@ -237,10 +238,10 @@ impl Row {
         let Some((listed, causes)) = explained else {
             return false;
         };
-        if !call.answers(&function.answer(&Ok(listed))) {
+        if !call.answers(&(function.answer)(&Ok(listed))) {
             return false;
         }
-        let words = || call.words(&function.answer(&asked.found));
+        let words = || call.words(&(function.answer)(&asked.found));
         causes.into_iter().for_each(|cause| self.knows(&cause.name(), false, words));
         true
     }

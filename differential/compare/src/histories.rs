@@ -2,16 +2,15 @@
 
 pub mod columns;
 
-use self::columns::{Column, KINDS, drawn_kind};
+use self::columns::{Column, KINDS};
 use crate::builder::cause::{Cause, causes};
 use crate::builder::report::{Field, Report};
 use crate::builder::script::Script;
 use crate::builder::sides::{Run, WAYS, Way};
-use crate::builder::ties::unique_maximum;
-use crate::builder::{RULES, Settings, draws, observed, refused, rule_of};
+use crate::builder::{Settings, draws, observed, refused, rule_of};
 use crate::environment;
 use crate::random::Random;
-use crate::tally::{Counts, Row, print_table, verdict};
+use crate::tally::{Row, print_table, verdict};
 
 /// How many columns a script has at least. Each call of our side builds its tables anew, so that
 /// there are many.
@@ -64,8 +63,8 @@ impl Drawn {
             Self { settings, script: Script::default(), columns: Vec::new(), places: Vec::new() };
         let mut rule = settings.rule;
         while drawn.columns.len() < COLUMNS {
-            let kind = drawn_kind(random);
-            for column in KINDS[kind].columns(random) {
+            let (kind, columns) = columns::drawn(random);
+            for column in columns {
                 if !drawn.columns.is_empty() {
                     drawn.script.reset(random);
                 }
@@ -122,7 +121,7 @@ impl Tally {
     /// Compares so many histories.
     pub fn of(histories: u64, seed: u64) -> Self {
         let mut tally = Self {
-            kinds: KINDS.iter().map(|kind| Row::new(kind.name)).collect(),
+            kinds: KINDS.iter().map(|(name, ..)| Row::new(*name)).collect(),
             fields: Field::ALL.iter().map(|field| Row::new(field.name())).collect(),
             ways: WAYS.iter().map(|(name, _)| Row::new(*name)).collect(),
             observed: Row::default(),
@@ -153,7 +152,7 @@ impl Tally {
         let rust =
             run.rust_seen(|builder, report| observed::compare(builder, report, settings, observed));
         for (place, rust) in drawn.places.iter().zip(&rust) {
-            count(rust, &mut self.kinds[place.kind].counts);
+            rust.count(&mut self.kinds[place.kind].counts);
         }
         for way in 0..WAYS.len() {
             self.compare_way(way, &run, &drawn.places, &rust);
@@ -231,21 +230,6 @@ impl Tally {
         observed::print("histories", &self.observed);
         all.tell("histories: {pre rates} pre rates and {post rates} post rates");
     }
-}
-
-/// Counts what a report of the Rust's shows.
-fn count(rust: &Report, counts: &mut Counts) {
-    let shortcuts = [Field::Unanimous, Field::Multibase];
-    let [unanimous, multibase] = shortcuts.map(|shortcut| rust.replies(shortcut));
-    let lanes = rust.likelihoods();
-    let [one, other] = RULES.map(|rule| unique_maximum(lanes, rule));
-    counts.one("reports");
-    counts.add("unanimous", unanimous);
-    counts.add("multibase", multibase);
-    counts.add("neither", !unanimous && !multibase);
-    counts.add("N called", rust.no_call());
-    counts.add("rules differ", one != other);
-    counts.add("not finite", !lanes.iter().all(|lane| lane.is_finite()));
 }
 
 fn count_difference(

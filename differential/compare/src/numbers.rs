@@ -119,7 +119,7 @@ impl Tally {
 
     fn count(&mut self, answers: Answers) {
         self.compared += 1;
-        self.panics += u64::from(answers.is_panic());
+        self.panics += u64::from(answers.rust.is_none());
         if answers.apart() == 0 {
             return;
         }

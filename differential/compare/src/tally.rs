@@ -160,8 +160,8 @@ impl Row {
 
     /// How many differ for each cause that occurred, and one of them.
     pub fn known(&self) -> impl Iterator<Item = (&str, u64, &String)> {
-        let line = |row: &'_ Self| row.counts.of("reports");
-        self.known.iter().filter_map(move |row| Some((&row.name[..], line(row), row.example()?)))
+        let many = |row: &Self| row.counts.of("reports");
+        self.known.iter().filter_map(move |row| Some((&row.name[..], many(row), row.example()?)))
     }
 
     /// How many differ, once for each of their causes.

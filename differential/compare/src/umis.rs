@@ -97,7 +97,6 @@ fn drawn(sets: u64, random: &mut Random) -> Vec<Row> {
         other.counts.see("pre rates", rates.pre);
         other.counts.see("post rates", rates.post);
         other.counts.see("qualities", rates.quality);
-        let shape = shape(random);
         let set = written(&any_kind(shape, random));
         other.compare_functions(&Function::OF_CALLER, rates, &set, |_| vec![ROOM]);
     }
@@ -120,8 +119,8 @@ fn damaged(sets: u64, with_full: bool, random: &mut Random) -> Row {
         compare_damaged_full(&written(&family(FULL, 1, random)), &mut row);
     }
     for _ in 0..1 + sets / SETS_FOR_A_DAMAGED {
-        let shape = small_shape(random);
-        compare_damaged(&written(&any_kind(shape, random)), random, &mut row);
+        let set = written(&any_kind(small_shape, random));
+        compare_damaged(&set, random, &mut row);
     }
     row
 }
@@ -162,11 +161,9 @@ fn compare_damaged(set: &[u8], random: &mut Random, row: &mut Row) {
 fn in_rooms(sets: u64, random: &mut Random) -> Row {
     let mut row = Row::new("buffers of every length");
     for _ in 0..1 + sets / SETS_FOR_ROOMS {
-        let small = small_shape(random);
-        let set = written(&any_kind(small, random));
+        let set = written(&any_kind(small_shape, random));
         row.compare_functions(&Function::ALL, DEFAULTS, &set, every_room);
-        let any = shape(random);
-        let set = written(&any_kind(any, random));
+        let set = written(&any_kind(shape, random));
         row.compare_functions(&Function::ALL, DEFAULTS, &set, some_rooms);
     }
     row

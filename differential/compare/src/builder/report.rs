@@ -5,8 +5,10 @@ use oracle::base_builder::accessors::{
     State, call_full, state, try_multibase_fast_path, try_unanimous_fast_path,
 };
 
-use super::BASES;
+use super::ties::unique_maximum;
+use super::{BASES, RULES};
 use crate::numbers::stored_bits;
+use crate::tally::Counts;
 
 /// How many bytes a report has.
 pub const BYTES: usize = 91;
@@ -108,12 +110,19 @@ impl Report {
         state_of(&self.state()).observations
     }
 
-    pub fn replies(&self, shortcut: Field) -> bool {
-        self.field(shortcut)[0] != 0
-    }
-
-    pub fn no_call(&self) -> bool {
-        self.field(Field::Call)[0] == b'N'
+    /// Counts what it shows.
+    pub fn count(&self, counts: &mut Counts) {
+        let shortcuts = [Field::Unanimous, Field::Multibase];
+        let [unanimous, multibase] = shortcuts.map(|shortcut| self.field(shortcut)[0] != 0);
+        let lanes = self.likelihoods();
+        let [one, other] = RULES.map(|rule| unique_maximum(lanes, rule));
+        counts.one("reports");
+        counts.add("unanimous", unanimous);
+        counts.add("multibase", multibase);
+        counts.add("neither", !unanimous && !multibase);
+        counts.add("N called", self.field(Field::Call)[0] == b'N');
+        counts.add("rules differ", one != other);
+        counts.add("not finite", !lanes.iter().all(|lane| lane.is_finite()));
     }
 
     pub fn refused(&self) -> u8 {

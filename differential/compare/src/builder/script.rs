@@ -34,8 +34,6 @@ pub fn rules_at_reports(mut rule: u8, script: &[u8]) -> Vec<u8> {
 #[derive(Default)]
 pub struct Script {
     pub bytes: Vec<u8>,
-    /// How many reports it asks for.
-    pub reports: usize,
 }
 
 impl Script {
@@ -55,6 +53,5 @@ impl Script {
 
     pub fn report(&mut self, random: &mut Random) {
         self.bytes.extend([REPORT, random.byte(), random.byte()]);
-        self.reports += 1;
     }
 }

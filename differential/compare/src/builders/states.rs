@@ -9,8 +9,10 @@ use crate::builder::formula::Gaps;
 use crate::numbers::ranges::Draw;
 use crate::random::Random;
 
-/// Ways to draw a state for a builder of some settings, by name.
-pub static KINDS: [(&str, fn(Settings, &mut Random) -> State); 13] = [
+/// A way to draw a state for a builder of some settings, by name.
+type Kind = (&'static str, fn(Settings, &mut Random) -> State);
+
+pub static KINDS: [Kind; 13] = [
     ("after observations, or a few units off", observed),
     ("[-60, 0]", |_, random| of_each(|random| random.between(-60.0, 0.0), random)),
     ("[-60, 0], some equal", |_, random| with_lanes(some_equal(random), random)),

@@ -4,7 +4,7 @@ use super::faulty;
 use super::file::{ABSENT, Made, Parts};
 use crate::builder::draws::{Qualities, base};
 use crate::builder::{Settings, draws};
-use crate::histories::columns::{Column, KINDS as COLUMN_KINDS, drawn_kind};
+use crate::histories::columns::{self, Column};
 use crate::random::Random;
 use crate::umis::families::{Shape, any_kind, family, shape};
 
@@ -15,9 +15,11 @@ const MOST_BYTES: usize = 50_000;
 const ERRORS: u64 = 50;
 const UNREAD: u64 = 60;
 
-/// Ways to draw a file, by name, and how often each is drawn. A sound file costs the most time, since
-/// tables are built for it.
-pub static KINDS: [(&str, usize, fn(&mut Random) -> Made); 14] = [
+/// A way to draw a file, by name, and how often it is drawn.
+type Kind = (&'static str, usize, fn(&mut Random) -> Made);
+
+/// A sound file costs the most time, since tables are built for it.
+pub static KINDS: [Kind; 14] = [
     ("usual columns and UMIs", 2, |random| usual(random).listed()),
     ("columns of every kind", 3, |random| with_any_columns(random).listed()),
     ("strings of every kind", 2, |random| Made::open(with_any_strings(random).bytes())),
@@ -96,7 +98,7 @@ fn with_any_columns(random: &mut Random) -> Parts {
     let mut parts = usual(random);
     let mut room = MOST_BYTES;
     for _ in 0..1 + random.below(6) {
-        for mut column in COLUMN_KINDS[drawn_kind(random)].columns(random) {
+        for mut column in columns::drawn(random).1 {
             let bytes = 2 + 2 * column.len();
             if bytes < room {
                 room -= bytes;
@@ -110,7 +112,6 @@ fn with_any_columns(random: &mut Random) -> Parts {
 
 /// Strings as the UMI sets have them: as many and as long as there may be, accepted and refused.
 fn with_any_strings(random: &mut Random) -> Parts {
-    let shape = shape(random);
     let strings = any_kind(shape, random);
     let columns = columns(random.below(3), |_| 3, random);
     Parts::new(settings(random), columns, strings)

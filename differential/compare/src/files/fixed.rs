@@ -2,7 +2,7 @@
 //! every place, every file of a few bytes, and every byte as a base and in a string.
 
 use super::file::{ABSENT, ABSENT_QUALITY, BAD_SETTINGS, Made, Parts};
-use super::listing::{FUNCTIONS, found_in};
+use super::listing::{found_in, text_of};
 use crate::builder::{Settings, TYPICAL};
 use crate::lists::lists;
 use crate::tally::Row;
@@ -46,7 +46,7 @@ fn named() -> Row {
     let mut row = row("named in SCOPE", listed().chain(refused()));
     for (file, text) in self::listed() {
         let text = format!("column base quality depth A C G T\n{text}");
-        let found = found_in(&file).map(|found| FUNCTIONS[0].answer(&found).bytes);
+        let found = found_in(&file).map(|found| text_of(&found).bytes);
         if found.as_deref() != Ok(text.as_bytes()) {
             row.file_differs(&file, &format!("the Rust's answers do not give \"{text}\""));
         }

@@ -126,26 +126,22 @@ impl Listed<'_> {
     }
 }
 
-/// A function that lists a file.
+/// A function of a file.
 pub struct Function {
     pub name: &'static str,
     pub ours: fn(&[u8], &mut [u8]) -> u64,
-    /// What it writes of a file that is listed.
-    bytes: fn(&Listed) -> Vec<u8>,
-    /// Whether a refusal, and 10 for too short a buffer, is the reply, and 256 and the length that of
-    /// a file that is listed. Else a refusal is written, too, and the reply is the length.
-    pub by_number: bool,
+    /// What is demanded of it where this is found.
+    pub answer: fn(&Found) -> Answer,
     /// The counts of its calls, of those that are refused, of too short buffers and of the others.
     pub counts: [&'static str; 4],
 }
 
 macro_rules! functions {
-    ($($name:ident $bytes:ident $by_number:literal)*) => {
+    ($($name:ident: $ours:expr, $answer:expr;)*) => {
         [$(Function {
             name: concat!("consensus_", stringify!($name)),
-            ours: exports::$name,
-            bytes: $bytes,
-            by_number: $by_number,
+            ours: $ours,
+            answer: $answer,
             counts: [
                 stringify!($name),
                 concat!(stringify!($name), ", refused"),
@@ -156,23 +152,26 @@ macro_rules! functions {
     };
 }
 
-/// One more is compared by its line here.
+/// One more is compared by its line here, on every file that there is.
 pub static FUNCTIONS: [Function; 3] = functions! {
-    list text false
-    listing text true
-    records records true
+    list: exports::list, text_of;
+    listing: exports::listing, |found| by_number(found, text);
+    records: exports::records, |found| by_number(found, records);
 };
 
-impl Function {
-    pub fn answer(&self, found: &Found) -> Answer {
-        match found {
-            Err(number) if self.by_number => Answer::number(*number),
-            Err(number) => Answer::length_of(format!("refused {number}\n").into_bytes()),
-            Ok(listed) => {
-                let answer = Answer::length_of((self.bytes)(listed));
-                let (more, too_short) = if self.by_number { (256, TOO_SHORT) } else { (0, 0) };
-                Answer { reply: answer.reply + more, too_short, ..answer }
-            }
+/// A refusal is a text, too, and the reply is its length.
+pub fn text_of(found: &Found) -> Answer {
+    let refusal = |number: &u64| format!("refused {number}\n").into_bytes();
+    Answer::length_of(found.as_ref().map_or_else(refusal, text))
+}
+
+/// A refusal is the reply, and so is 10 for too short a buffer; else that is 256 and the length.
+fn by_number(found: &Found, bytes: fn(&Listed) -> Vec<u8>) -> Answer {
+    match found {
+        Err(number) => Answer::number(*number),
+        Ok(listed) => {
+            let bytes = bytes(listed);
+            Answer { reply: 256 + bytes.len() as u64, bytes, too_short: TOO_SHORT }
         }
     }
 }

@@ -8,64 +8,43 @@ use crate::random::Random;
 pub type Observation = (u8, u8);
 pub type Column = Vec<Observation>;
 
-/// A way to draw a column.
-pub struct Kind {
-    pub name: &'static str,
-    /// How often it is drawn.
-    weight: u64,
-    /// In how many orders a drawn column is observed.
-    orders: usize,
-    draw: fn(&mut Random) -> Column,
-}
-
-const fn kind(
-    name: &'static str,
-    weight: u64,
-    orders: usize,
-    draw: fn(&mut Random) -> Column,
-) -> Kind {
-    Kind { name, weight, orders, draw }
-}
+/// A way to draw a column, by name: how often it is drawn, and in how many orders it is observed.
+type Kind = (&'static str, u64, usize, fn(&mut Random) -> Column);
 
 /// A near-tie depends on the order of the observations, so such columns come in several orders.
 pub static KINDS: [Kind; 11] = [
-    kind("nothing, or ignored bytes alone", 1, 1, ignored_alone),
-    kind("one observation", 4, 1, |random| unanimous(1, random)),
-    kind("unanimous", 8, 1, |random| unanimous(depth(random), random)),
-    kind("one base but for some errors", 8, 1, with_errors),
-    kind("two bases, evenly", 4, 1, |random| of_bases(2, random)),
-    kind("four bases, evenly", 4, 1, |random| of_bases(4, random)),
-    kind("as many of each, one quality", 1, 4, |random| even_split(Spread::One, random)),
-    kind("the same, but for one quality", 1, 4, |random| even_split(Spread::OneOff, random)),
-    kind("as many of each, the same qualities", 1, 4, |random| even_split(Spread::Same, random)),
-    kind("two of one and two of another", 1, 6, two_and_two),
-    kind("any bytes", 4, 1, any_bytes),
+    ("nothing, or ignored bytes alone", 1, 1, ignored_alone),
+    ("one observation", 4, 1, |random| unanimous(1, random)),
+    ("unanimous", 8, 1, |random| unanimous(depth(random), random)),
+    ("one base but for some errors", 8, 1, with_errors),
+    ("two bases, evenly", 4, 1, |random| of_bases(2, random)),
+    ("four bases, evenly", 4, 1, |random| of_bases(4, random)),
+    ("as many of each, one quality", 1, 4, |random| even_split(Spread::One, random)),
+    ("the same, but for one quality", 1, 4, |random| even_split(Spread::OneOff, random)),
+    ("as many of each, the same qualities", 1, 4, |random| even_split(Spread::Same, random)),
+    ("two of one and two of another", 1, 6, two_and_two),
+    ("any bytes", 4, 1, any_bytes),
 ];
 
-/// The place of a kind in the list, by the weights.
-pub fn drawn_kind(random: &mut Random) -> usize {
-    let weights = KINDS.iter().map(|kind| kind.weight);
+/// A kind by the weights, as its place in the list, and a column of it in each of its orders, some with
+/// bytes between that are ignored, and some with bases in lower case.
+pub fn drawn(random: &mut Random) -> (usize, Vec<Column>) {
+    let weights = KINDS.iter().map(|kind| kind.1);
     let mut left = random.below(weights.clone().sum());
     let is_drawn = |weight| {
         let drawn = left < weight;
         left = left.saturating_sub(weight);
         drawn
     };
-    weights.map(is_drawn).position(|drawn| drawn).expect("what is left is below their sum")
-}
-
-impl Kind {
-    /// A column in each of its orders, some with bytes between that are ignored, and some with bases
-    /// in lower case.
-    pub fn columns(&self, random: &mut Random) -> Vec<Column> {
-        let drawn = (self.draw)(random);
-        let mut columns = Vec::with_capacity(self.orders);
-        for order in 0..self.orders {
-            let column = if order == 0 { drawn.clone() } else { random.shuffled(drawn.clone()) };
-            columns.push(disguised(column, random));
-        }
-        columns
+    let kind = weights.map(is_drawn).position(|drawn| drawn).expect("one is drawn");
+    let (.., orders, draw) = KINDS[kind];
+    let drawn = draw(random);
+    let mut columns = Vec::with_capacity(orders);
+    for order in 0..orders {
+        let column = if order == 0 { drawn.clone() } else { random.shuffled(drawn.clone()) };
+        columns.push(disguised(column, random));
     }
+    (kind, columns)
 }
 
 /// Most columns are short, and some are deep.

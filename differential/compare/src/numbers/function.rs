@@ -121,23 +121,13 @@ pub struct Answers {
     arguments: Arguments,
     ours: f64,
     /// None where the Rust panics.
-    rust: Option<f64>,
+    pub rust: Option<f64>,
 }
 
 impl Answers {
-    /// Whether the Rust panics.
-    pub fn is_panic(&self) -> bool {
-        self.rust.is_none()
-    }
-
     /// What ours is to be: the Rust's answer, and NaN where that panics.
     fn demanded(&self) -> f64 {
         self.rust.unwrap_or(f64::NAN)
-    }
-
-    /// Whether the Rust answers NaN.
-    pub fn is_nan(&self) -> bool {
-        self.rust.is_some_and(f64::is_nan)
     }
 
     /// How far apart they are, in units in the last place or in levels.

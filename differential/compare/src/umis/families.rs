@@ -35,8 +35,11 @@ pub fn small_shape(random: &mut Random) -> Shape {
     Shape { strings: random.index(7), length: random.index(10) }
 }
 
-/// Ways to draw a set of about a shape, by name. Two strands are made of the other kinds.
-pub static KINDS: [(&str, fn(Shape, &mut Random) -> Strings); 10] = [
+/// A way to draw a set of about a shape, by name.
+type Kind = (&'static str, fn(Shape, &mut Random) -> Strings);
+
+/// Two strands are made of the other kinds.
+pub static KINDS: [Kind; 10] = [
     ("errors of 0 to 50 percent", with_errors),
     ("errors, N and lower case", disguised),
     ("two halves", |shape, random| parts(2, shape, random)),
@@ -50,9 +53,10 @@ pub static KINDS: [(&str, fn(Shape, &mut Random) -> Strings); 10] = [
 ];
 
 /// A set of any kind.
-pub fn any_kind(shape: Shape, random: &mut Random) -> Strings {
-    let kind = random.index(KINDS.len());
-    KINDS[kind].1(shape, random)
+pub fn any_kind(shape: fn(&mut Random) -> Shape, random: &mut Random) -> Strings {
+    let shape = shape(random);
+    let (_, draw) = KINDS[random.index(KINDS.len())];
+    draw(shape, random)
 }
 
 /// Bytes that are no DNA. A slip would take some of them for a base.

@@ -168,7 +168,7 @@ fn drawn(random: &mut Random) -> Vec<Vec<u8>> {
 /// Most often a small one; some are cut off or have a byte too many, which a set of its own is refused
 /// for, and not the sequence.
 fn drawn_set(random: &mut Random) -> Vec<u8> {
-    let shape = if random.below(16) == 0 { shape(random) } else { small_shape(random) };
+    let shape = if random.below(16) == 0 { shape } else { small_shape };
     let mut set = written(&any_kind(shape, random));
     match random.below(16) {
         0 => set.truncate(random.index(set.len())),

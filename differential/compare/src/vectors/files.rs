@@ -3,10 +3,11 @@
 use super::List;
 use crate::builder::{Settings, TYPICAL};
 use crate::call::Call;
+use crate::exports;
 use crate::files::drawn::KINDS;
 use crate::files::file::Parts;
 use crate::files::fixed::{self, SAMPLE};
-use crate::files::listing::{FUNCTIONS, found_in};
+use crate::files::listing::{found_in, text_of};
 use crate::hexadecimal::digits;
 use crate::random::Random;
 
@@ -66,15 +67,14 @@ fn field(bytes: &[u8], room: usize) -> String {
 /// A file with the text that the Rust's answers give.
 fn add(list: &mut List, file: &[u8]) -> Result<(), String> {
     let found = found_in(file)?;
-    let function = &FUNCTIONS[0];
-    let text = function.answer(&found);
+    let text = text_of(&found);
     let room = text.bytes.len();
     if room > TEXT_BYTES {
         return Ok(());
     }
-    let call = Call { name: &String::new, ours: &function.ours, input: file, room };
+    let call = Call { name: &String::new, ours: &exports::list, input: file, room };
     let explained = || found.ok().and_then(|listed| listed.explained());
-    let is_known = || explained().is_some_and(|(it, _)| call.answers(&function.answer(&Ok(it))));
+    let is_known = || explained().is_some_and(|(it, _)| call.answers(&text_of(&Ok(it))));
     let (file, answer) = (field(file, FILE_BYTES), field(&text.bytes, TEXT_BYTES));
     list.add(file, answer, call.answers(&text), is_known)
 }

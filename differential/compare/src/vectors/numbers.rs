@@ -83,7 +83,7 @@ impl List {
             let arguments = (range.draw)(random);
             let is_line = function.takes != Takes::Lanes || arguments.values().len() == USUAL_LANES;
             let answers = function.answers(arguments);
-            if is_line && !answers.is_nan() {
+            if is_line && !answers.rust.is_some_and(f64::is_nan) {
                 self.add_answers(answers, range.demand)?;
             }
         }
