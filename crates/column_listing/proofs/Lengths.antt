@@ -22,7 +22,7 @@ use Rattle.base_builder_laws.specs.GoodCalls.{isBase, isCall}
 use Rattle.base_builder_laws.proofs.GoodCalls.{good-calls}
 use Rattle.base_builder.specs.History.{after}
 use Rattle.base_builder_laws.proofs.Laws.{laws}
-use Rattle.simple_umi.specs.Consensus.{Found}
+use Rattle.umi_groups.specs.Found.{Found}
 use Rattle.column_file.specs.declared.file.Places.{Places}
 use Rattle.column_file.specs.declared.settings.Settings.{Settings}
 use Rattle.column_file.specs.Format.{Observation}

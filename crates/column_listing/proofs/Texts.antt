@@ -3,7 +3,7 @@ use mathlib.Core.Path.{_≡_, refl, sym}
 use mathlib.Core.List.{List, [], _∷_, _++_, append-nil}
 use Prim.Native.Nat.{ℕ, _+_}
 use Rattle.lent_bytes.proofs.Joined.{joined-append}
-use Rattle.simple_umi.specs.Consensus.{Found}
+use Rattle.umi_groups.specs.Found.{Found}
 use Rattle.column_file.specs.declared.file.Places.{Places}
 use Rattle.column_file.specs.declared.settings.Settings.{Settings}
 use Rattle.column_file.specs.Format.{Observation}

@@ -2,7 +2,7 @@
 use Prim.Native.Nat.{ℕ}
 use mathlib.Core.List.{List, [], _∷_, _++_}
 use Rattle.refusals.specs.Result.{Result, refused, accepted, andThen}
-use Rattle.simple_umi.specs.Consensus.{Found}
+use Rattle.umi_groups.specs.Found.{Found}
 use Rattle.column_file.specs.Reading.{File}
 use Rattle.judged_file.specs.Judged.{judgeFile}
 use Rattle.listing_lines.specs.Lines.{header, columnLines, umiLine, textOf, refusalLine}

@@ -12,10 +12,11 @@ use Rattle.refusals.specs.declared.Verdict.the-variants.{Sound, Refused}
 use Rattle.refusals.specs.Result.{Result, refused, accepted, andThen, judged}
 use Rattle.string_set.specs.Readers.{Taken, taken, short, next, byte, front, many, alone, longestFile}
 use Rattle.string_set.specs.StringSet.{string, stringSet, readSet}
-use Rattle.simple_umi.specs.declared.caller.SimpleConsensusCaller.{SimpleConsensusCaller}
-use Rattle.simple_umi.specs.Strings.{firstOf}
-use Rattle.simple_umi.specs.Verdicts.{consensusVerdict}
-use Rattle.simple_umi.specs.Consensus.{Found, defaultCaller, found, consensusOf}
+use Rattle.simple_consensus.specs.declared.caller.SimpleConsensusCaller.{SimpleConsensusCaller}
+use Rattle.simple_consensus.specs.Strings.{firstOf}
+use Rattle.simple_consensus.specs.Verdicts.{consensusVerdict}
+use Rattle.umi_groups.specs.Found.{Found}
+use Rattle.simple_consensus.specs.Consensus.{defaultCaller, found, consensusOf}
 use Rattle.simple_umi_laws.proofs.AnswerLaws.{answered, no-refusal}
 use Rattle.column_file.specs.Reading.{File, readFile}
 use Rattle.column_file.specs.Places.{headSize, columnsSize}

@@ -8,7 +8,7 @@ use lib.ListN.{length, getD}
 use Rattle.words.specs.Choice.{if_then_else_}
 use Rattle.words.specs.Lists.{any, lastOr, isEmpty}
 use Rattle.lent_text.specs.Text.{newline}
-use Rattle.simple_umi.specs.Consensus.{Found}
+use Rattle.umi_groups.specs.Found.{Found}
 use Rattle.column_file.specs.Reading.{File}
 use Rattle.column_listing.specs.Listing.{linesOf, listingOf}
 

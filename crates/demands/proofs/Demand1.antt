@@ -1,9 +1,11 @@
 -- Demand 1, whole. Assumes nothing.
 use Rattle.refusals.specs.Result.{andThen, accepted}
-use Rattle.simple_umi.specs.Consensus.{defaultCaller, callConsensusOf, consensusOf, umisOf}
+use Rattle.simple_consensus.specs.Consensus.{defaultCaller, callConsensusOf, consensusOf, umisOf}
 use Rattle.simple_umi.specs.Duplex.{duplexOf}
-use Rattle.simple_umi.specs.Answers.{roomFor, callConsensusIn, consensusIn, consensusUmisIn, duplexIn}
-use Rattle.simple_umi.proofs.Replies.{room-short, room-enough}
+use Rattle.umi_groups.specs.Found.{roomFor}
+use Rattle.simple_consensus.specs.Answers.{callConsensusIn, consensusUmisIn}
+use Rattle.simple_umi.specs.Answers.{consensusIn, duplexIn}
+use Rattle.umi_groups.proofs.Room.{room-short, room-enough}
 use Rattle.simple_umi_laws.proofs.ConditionLaws.{conditions as string-conditions}
 use Rattle.column_file_laws.proofs.ConditionLaws.{conditions as file-conditions}
 use Rattle.base_builder_laws.proofs.GoodCalls.{good-calls}

@@ -10,8 +10,8 @@ use Rattle.refusals.specs.declared.Verdict.the-variants.{Sound, Refused}
 use Rattle.refusals.specs.Result.{Result, refused, accepted, andThen}
 use Rattle.string_set.specs.Readers.{longestFile}
 use Rattle.string_set.specs.StringSet.{readSet}
-use Rattle.simple_umi.specs.Verdicts.{consensusVerdict}
-use Rattle.simple_umi.specs.Consensus.{defaultCaller, found}
+use Rattle.simple_consensus.specs.Verdicts.{consensusVerdict}
+use Rattle.simple_consensus.specs.Consensus.{defaultCaller, found}
 use Rattle.column_file.specs.Reading.{File, readFile}
 use Rattle.judged_file.specs.Judged.{judgeFile}
 use Rattle.listing_lines.specs.Lines.{textOf}

@@ -5,10 +5,12 @@ use Rattle.refusals.specs.declared.Refusal.{Refusal}
 use Rattle.base_builder.specs.declared.builder.ConsensusBaseBuilder.{ConsensusBaseBuilder}
 use Rattle.base_builder_laws.specs.GoodCalls.{GoodCalls}
 use Rattle.base_builder_laws.specs.AddConditions.{AddConditions}
-use Rattle.simple_umi.specs.declared.caller.SimpleConsensusCaller.{SimpleConsensusCaller}
-use Rattle.simple_umi.specs.Consensus.{Found, defaultCaller, callConsensusOf, consensusOf, umisOf}
+use Rattle.simple_consensus.specs.declared.caller.SimpleConsensusCaller.{SimpleConsensusCaller}
+use Rattle.umi_groups.specs.Found.{Found}
+use Rattle.simple_consensus.specs.Consensus.{defaultCaller, callConsensusOf, consensusOf, umisOf}
 use Rattle.simple_umi.specs.Duplex.{FoundDuplex, duplexOf}
-use Rattle.simple_umi.specs.Answers.{callConsensusIn, consensusIn, consensusUmisIn, duplexIn}
+use Rattle.simple_consensus.specs.Answers.{callConsensusIn, consensusUmisIn}
+use Rattle.simple_umi.specs.Answers.{consensusIn, duplexIn}
 use Rattle.simple_umi_laws.specs.Laws.{Conditions as StringConditions}
 use Rattle.column_file_laws.specs.Conditions.{Conditions as FileConditions}
 use Rattle.demands.specs.Refused.{SetConditions, InTurn, ListingConditions, Unchanged}

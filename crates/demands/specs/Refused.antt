@@ -11,10 +11,11 @@ use Rattle.refusals.specs.Result.{Result, refused, accepted}
 use Rattle.string_set.specs.Readers.{alone, longestFile}
 use Rattle.string_set.specs.StringSet.{stringSet, readSet}
 use Rattle.string_set.specs.Places.{placesAfter}
-use Rattle.simple_umi.specs.declared.caller.SimpleConsensusCaller.{SimpleConsensusCaller}
-use Rattle.simple_umi.specs.Verdicts.{consensusVerdict}
-use Rattle.simple_umi.specs.Consensus.{Found}
-use Rattle.simple_umi.specs.Answers.{bufferAfter, callerAfter}
+use Rattle.simple_consensus.specs.declared.caller.SimpleConsensusCaller.{SimpleConsensusCaller}
+use Rattle.simple_consensus.specs.Verdicts.{consensusVerdict}
+use Rattle.umi_groups.specs.Found.{Found}
+use Rattle.umi_groups.specs.Found.{bufferAfter}
+use Rattle.simple_consensus.specs.Answers.{callerAfter}
 use Rattle.column_file.specs.Reading.{File, readFile}
 use Rattle.column_listing.specs.Listing.{listingOf}
 use Rattle.column_listing.specs.Answers.{listedIn, listingBuffer}

@@ -14,10 +14,13 @@ use Rattle.refusals.specs.declared.Refusal.the-variants.{FileTooLong, CutOff, B
 use Rattle.refusals.specs.Refusals.{numberOf}
 use Rattle.refusals.specs.Result.{Result, refused, accepted}
 use Rattle.export_reports.specs.Report.{builderBytes}
-use Rattle.simple_umi.specs.declared.caller.SimpleConsensusCaller.{SimpleConsensusCaller}
-use Rattle.simple_umi.specs.Consensus.{Found, withBuilder}
+use Rattle.simple_consensus.specs.declared.caller.SimpleConsensusCaller.{SimpleConsensusCaller}
+use Rattle.umi_groups.specs.Found.{Found}
+use Rattle.simple_consensus.specs.Consensus.{withBuilder}
 use Rattle.simple_umi.specs.Duplex.{FoundDuplex}
-use Rattle.simple_umi.specs.Answers.{callConsensusIn, consensusIn, duplexIn, answerOf, answerLength, flaggedOf, flaggedLength, duplexAnswerOf, duplexLength, pairFound, bufferAfter, callerAfter}
+use Rattle.simple_consensus.specs.Answers.{callConsensusIn, answerOf, answerLength, callerAfter}
+use Rattle.simple_umi.specs.Answers.{consensusIn, duplexIn, duplexAnswerOf, duplexLength, pairFound}
+use Rattle.umi_groups.specs.Found.{flaggedOf, flaggedLength, bufferAfter}
 use Rattle.export_umi.specs.declared.asked.Asked.{Asked}
 use Rattle.export_umi.specs.declared.asked.Question.{Question}
 use Rattle.export_umi.specs.declared.asked.Question.the-variants.{CallConsensus, Consensus, ConsensusDuplex}

@@ -3,9 +3,11 @@ use Prim.Native.Nat.{ℕ}
 use mathlib.Core.List.{List, []}
 use lib.ListN.{length}
 use Rattle.refusals.specs.Result.{Result, refused, accepted}
-use Rattle.simple_umi.specs.declared.caller.SimpleConsensusCaller.{SimpleConsensusCaller}
-use Rattle.simple_umi.specs.Consensus.{Found}
-use Rattle.simple_umi.specs.Answers.{callConsensusIn, consensusIn, duplexIn, answerOf, flaggedOf, duplexAnswerOf, pairFound, callerAfter}
+use Rattle.simple_consensus.specs.declared.caller.SimpleConsensusCaller.{SimpleConsensusCaller}
+use Rattle.umi_groups.specs.Found.{Found}
+use Rattle.simple_consensus.specs.Answers.{callConsensusIn, answerOf, callerAfter}
+use Rattle.simple_umi.specs.Answers.{consensusIn, duplexIn, duplexAnswerOf, pairFound}
+use Rattle.umi_groups.specs.Found.{flaggedOf}
 use Rattle.export_umi.specs.declared.asked.Asked.{Asked}
 use Rattle.export_umi.specs.declared.asked.Question.{Question}
 use Rattle.export_umi.specs.declared.asked.Question.the-variants.{CallConsensus, Consensus, ConsensusDuplex}

@@ -5,14 +5,16 @@ use mathlib.Core.List.{List}
 use lib.Dec.{eqb}
 use Rattle.words.specs.Choice.{if_then_else_}
 use Rattle.refusals.specs.Refusals.{numberOf}
-use Rattle.simple_umi.specs.declared.answers.Answer.{Answer}
+use Rattle.simple_consensus.specs.declared.answers.Answer.{Answer}
 use Rattle.simple_umi.specs.declared.answers.Answer.the-variants as answer
-use Rattle.simple_umi.specs.declared.answers.FlaggedAnswer.{FlaggedAnswer}
+use Rattle.umi_groups.specs.declared.answers.FlaggedAnswer.{FlaggedAnswer}
 use Rattle.simple_umi.specs.declared.answers.FlaggedAnswer.the-variants as flagged
 use Rattle.simple_umi.specs.declared.answers.DuplexAnswer.{DuplexAnswer}
 use Rattle.simple_umi.specs.declared.answers.DuplexAnswer.the-variants as duplex
-use Rattle.simple_umi.specs.Consensus.{defaultCaller}
-use Rattle.simple_umi.specs.Answers.{callConsensusIn, consensusIn, consensusUmisIn, duplexIn, answerOf, flaggedOf, duplexAnswerOf, pairFound, bufferAfter}
+use Rattle.simple_consensus.specs.Consensus.{defaultCaller}
+use Rattle.simple_consensus.specs.Answers.{callConsensusIn, consensusUmisIn, answerOf}
+use Rattle.simple_umi.specs.Answers.{consensusIn, duplexIn, duplexAnswerOf, pairFound}
+use Rattle.umi_groups.specs.Found.{flaggedOf, bufferAfter}
 
 -- 1 for true
 abbrev pub bit : Bool → ℕ

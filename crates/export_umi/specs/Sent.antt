@@ -7,8 +7,8 @@ use Rattle.words.specs.Choice.{if_then_else_}
 use Rattle.lent_bytes.specs.Buffer.{written}
 use Rattle.refusals.specs.Result.{Result, refused, accepted}
 use Rattle.export_reports.specs.Report.{builderBytes}
-use Rattle.simple_umi.specs.declared.caller.SimpleConsensusCaller.{SimpleConsensusCaller}
-use Rattle.simple_umi.specs.Consensus.{Found}
+use Rattle.simple_consensus.specs.declared.caller.SimpleConsensusCaller.{SimpleConsensusCaller}
+use Rattle.umi_groups.specs.Found.{Found}
 use Rattle.export_umi.specs.declared.asked.Question.{Question}
 use Rattle.export_umi.specs.declared.asked.Question.the-variants.{CallConsensus, Consensus, ConsensusDuplex}
 use Rattle.export_umi.specs.Asked.{foundBy, codeBy}

@@ -1,7 +1,7 @@
 // The functions of a caller, each by its name: one answer for all three, with the caller afterwards.
 ghost use mathlib.Core.Path.{_≡_};
 ghost use Prim.Native.Nat.{_≤_};
-ghost use Rattle.simple_umi.specs.Answers.{bufferAfter};
+ghost use Rattle.umi_groups.specs.Found.{bufferAfter};
 ghost use Rattle.export_umi.specs.Asked.{foundBy, askedOf};
 use crate::codes::answer_code;
 use crate::codes::answer_length;

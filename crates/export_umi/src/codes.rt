@@ -1,7 +1,9 @@
 // Replies in one number, and the functions at the defaults.
 ghost use mathlib.Core.Path.{_≡_};
 ghost use Prim.Native.Nat.{_≤_};
-ghost use Rattle.simple_umi.specs.Answers.{answerLength, flaggedLength, duplexLength};
+ghost use Rattle.simple_consensus.specs.Answers.{answerLength};
+ghost use Rattle.umi_groups.specs.Found.{flaggedLength};
+ghost use Rattle.simple_umi.specs.Answers.{duplexLength};
 ghost use Rattle.export_umi.specs.Codes.{bit, givenCode, answerCode, flaggedCode, duplexCode, umiReply, umiBuffer};
 use refusals::number;
 use simple_umi::Answer;

@@ -6,7 +6,7 @@ ghost use lib.ListN.{length};
 ghost use Rattle.words.specs.Choice.{if_then_else_};
 ghost use Rattle.lent_bytes.specs.Buffer.{written};
 ghost use Rattle.export_reports.specs.Report.{builderBytes};
-ghost use Rattle.simple_umi.specs.Consensus.{callerAt};
+ghost use Rattle.simple_consensus.specs.Consensus.{callerAt};
 ghost use Rattle.export_umi.specs.Sent.{askedReply, askedBuffer, callerReply, callerBuffer};
 use crate::asked::Question;
 use crate::asked::ask;

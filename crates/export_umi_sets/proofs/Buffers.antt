@@ -8,7 +8,7 @@ use Rattle.lent_bytes.specs.Buffer.{written}
 use Rattle.lent_text.specs.Printed.{Printed, lastPlace}
 use Rattle.lent_text.proofs.Printed.{printed-as, printed-written}
 use Rattle.string_set.specs.Readers.{Taken, taken, short}
-use Rattle.simple_umi.specs.declared.caller.SimpleConsensusCaller.{SimpleConsensusCaller}
+use Rattle.simple_consensus.specs.declared.caller.SimpleConsensusCaller.{SimpleConsensusCaller}
 use Rattle.export_umi.specs.declared.asked.Question.{Question}
 use Rattle.export_umi_sets.specs.declared.sets.Walk.{Walk}
 use Rattle.export_umi_sets.specs.declared.sets.Walk.the-variants as walk

@@ -19,14 +19,17 @@ use Rattle.export_reports.specs.Report.{builderBytes}
 use Rattle.export_reports.proofs.Lengths.{builder-length}
 use Rattle.umi_column.specs.Verdicts.{isUnlike, isMixed, verdictOf}
 use Rattle.umi_rows.specs.Rows.{isHigh}
-use Rattle.simple_umi.specs.declared.caller.SimpleConsensusCaller.{SimpleConsensusCaller}
-use Rattle.simple_umi.specs.Strings.{firstOf, columnsOf, alike, isFamily}
-use Rattle.simple_umi.specs.Verdicts.{firstRefusal, familyVerdict, consensusVerdict, umisVerdict, callVerdict}
-use Rattle.simple_umi.specs.Consensus.{Found, withBuilder, firstFound, found, consensusOf, callConsensusOf}
+use Rattle.simple_consensus.specs.declared.caller.SimpleConsensusCaller.{SimpleConsensusCaller}
+use Rattle.simple_consensus.specs.Strings.{firstOf, columnsOf, alike, isFamily}
+use Rattle.simple_consensus.specs.Verdicts.{familyVerdict, consensusVerdict, umisVerdict, callVerdict}
+use Rattle.umi_groups.specs.Found.{Found}
+use Rattle.simple_consensus.specs.Consensus.{withBuilder, firstFound, found, consensusOf, callConsensusOf}
 use Rattle.simple_umi.specs.Duplex.{FoundDuplex, endsIn, strandOf, paired, duplexOf}
-use Rattle.simple_umi.specs.Answers.{roomFor, callConsensusIn, consensusIn, duplexIn, answerOf, flaggedOf, duplexAnswerOf, pairFound}
-use Rattle.simple_umi.proofs.Groups.{found-length}
-use Rattle.simple_umi.proofs.Replies.{room-enough}
+use Rattle.umi_groups.specs.Found.{roomFor, flaggedOf}
+use Rattle.simple_consensus.specs.Answers.{callConsensusIn, answerOf}
+use Rattle.simple_umi.specs.Answers.{consensusIn, duplexIn, duplexAnswerOf, pairFound}
+use Rattle.simple_consensus.proofs.Groups.{found-length}
+use Rattle.umi_groups.proofs.Room.{room-enough}
 use Rattle.simple_umi.proofs.Strands.{strand-kept, strand-left}
 use Rattle.export_umi.specs.declared.asked.Question.{Question}
 use Rattle.export_umi.specs.declared.asked.Question.the-variants.{CallConsensus, Consensus, ConsensusDuplex}
@@ -156,7 +159,7 @@ column-not column =
     (λ e. choice NotTen (isMixed column) _ _ (λ k f. omega arith) (λ k f. omega arith))
 
 consensus-not : (strings : List (List ℕ)) → NotTen (consensusVerdict strings)
-unfolding consensusVerdict familyVerdict firstRefusal
+unfolding consensusVerdict familyVerdict
 consensus-not strings =
     choice NotTen (isFamily strings) _ _
     (λ e. choice NotTen (any (any isHigh) strings) _ _ (λ k f. omega arith) (λ k. first-not verdictOf column-not (columnsOf (length (firstOf strings)) strings)))

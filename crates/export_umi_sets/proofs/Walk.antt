@@ -10,7 +10,7 @@ use Rattle.words.proofs.Cases.{test, choice}
 use Rattle.lent_bytes.specs.Bytes.{numberAt}
 use Rattle.string_set.specs.Readers.{Taken, taken, short, next}
 use Rattle.string_set.proofs.Readers.{front-at, front-end, prepend}
-use Rattle.simple_umi.specs.declared.caller.SimpleConsensusCaller.{SimpleConsensusCaller}
+use Rattle.simple_consensus.specs.declared.caller.SimpleConsensusCaller.{SimpleConsensusCaller}
 use Rattle.export_umi.specs.declared.asked.Question.{Question}
 use Rattle.export_umi_sets.specs.declared.places.SetPlace.{SetPlace}
 use Rattle.export_umi_sets.specs.declared.places.SetPlace.the-variants as place

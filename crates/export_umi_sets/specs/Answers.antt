@@ -6,9 +6,9 @@ use Rattle.words.specs.Choice.{if_then_else_}
 use Rattle.string_set.specs.Readers.{Taken, taken, short}
 use Rattle.lent_bytes.specs.Bytes.{numberBytes}
 use Rattle.export_reports.specs.Report.{builderBytes}
-use Rattle.simple_umi.specs.declared.caller.SimpleConsensusCaller.{SimpleConsensusCaller}
-use Rattle.simple_umi.specs.Consensus.{callerAt}
-use Rattle.simple_umi.specs.Answers.{callerAfter}
+use Rattle.simple_consensus.specs.declared.caller.SimpleConsensusCaller.{SimpleConsensusCaller}
+use Rattle.simple_consensus.specs.Consensus.{callerAt}
+use Rattle.simple_consensus.specs.Answers.{callerAfter}
 use Rattle.export_umi.specs.declared.asked.Question.{Question}
 use Rattle.export_umi.specs.declared.asked.Question.the-variants.{CallConsensus, Consensus, ConsensusDuplex}
 use Rattle.export_umi.specs.Asked.{foundBy, codeBy, textIn}

@@ -8,7 +8,7 @@ use Rattle.words.specs.Choice.{if_then_else_}
 use Rattle.lent_bytes.specs.Bytes.{numberAt}
 use Rattle.lent_text.specs.Printed.{Printed}
 use Rattle.string_set.specs.Readers.{Taken, taken, short}
-use Rattle.simple_umi.specs.declared.caller.SimpleConsensusCaller.{SimpleConsensusCaller}
+use Rattle.simple_consensus.specs.declared.caller.SimpleConsensusCaller.{SimpleConsensusCaller}
 use Rattle.export_umi.specs.declared.asked.Question.{Question}
 use Rattle.export_umi_sets.specs.declared.places.SetPlace.{SetPlace}
 use Rattle.export_umi_sets.specs.declared.places.SetPlace.the-variants as place

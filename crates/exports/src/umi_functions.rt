@@ -1,7 +1,7 @@
 // The consensus of UMI strings, by the number of the function.
 ghost use mathlib.Core.Path.{_≡_};
 ghost use Rattle.lent_bytes.specs.Buffer.{lengthWritten, written};
-ghost use Rattle.simple_umi.specs.Consensus.{callerAt};
+ghost use Rattle.simple_consensus.specs.Consensus.{callerAt};
 ghost use Rattle.export_umi.specs.Codes.{umiReply, umiBuffer};
 ghost use Rattle.export_umi.specs.Sent.{callerReply, callerBuffer};
 ghost use Rattle.export_umi_sets.specs.Answers.{umiSetsBytes};

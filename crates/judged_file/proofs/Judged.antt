@@ -14,11 +14,13 @@ use Rattle.refusals.specs.declared.Refusal.{Refusal}
 use Rattle.refusals.specs.Refusals.{numberIn}
 use Rattle.refusals.specs.Result.{Result, refused, accepted, andThen}
 use Rattle.string_set.specs.StringSet.{readSet}
-use Rattle.simple_umi.specs.declared.answers.FlaggedAnswer.{FlaggedAnswer}
+use Rattle.umi_groups.specs.declared.answers.FlaggedAnswer.{FlaggedAnswer}
 use Rattle.simple_umi.specs.declared.answers.FlaggedAnswer.the-variants as answer
-use Rattle.simple_umi.specs.declared.caller.SimpleConsensusCaller.{SimpleConsensusCaller}
-use Rattle.simple_umi.specs.Consensus.{Found, defaultCaller, consensusOf}
-use Rattle.simple_umi.specs.Answers.{consensusIn, flaggedOf, flaggedLength, bufferAfter}
+use Rattle.simple_consensus.specs.declared.caller.SimpleConsensusCaller.{SimpleConsensusCaller}
+use Rattle.umi_groups.specs.Found.{Found}
+use Rattle.simple_consensus.specs.Consensus.{defaultCaller, consensusOf}
+use Rattle.simple_umi.specs.Answers.{consensusIn}
+use Rattle.umi_groups.specs.Found.{flaggedOf, flaggedLength, bufferAfter}
 use Rattle.column_file.specs.declared.file.Places.{Places}
 use Rattle.column_file.specs.Reading.{File, readFile}
 use Rattle.column_file.specs.Places.{placesOf}

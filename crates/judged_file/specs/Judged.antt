@@ -5,7 +5,8 @@ use lib.ListN.{length, replicate}
 use Rattle.lent_bytes.specs.Buffer.{written}
 use Rattle.refusals.specs.Refusals.{numberOf}
 use Rattle.refusals.specs.Result.{Result, refused, accepted, andThen}
-use Rattle.simple_umi.specs.Consensus.{Found, defaultCaller, consensusOf}
+use Rattle.umi_groups.specs.Found.{Found}
+use Rattle.simple_consensus.specs.Consensus.{defaultCaller, consensusOf}
 use Rattle.column_file.specs.Reading.{File, readFile}
 use Rattle.column_file.specs.Places.{placesOf}
 use Rattle.judged_file.specs.declared.Judgement.{Judgement}

@@ -1,4 +1,3 @@
-pub mod Rows
-pub mod Groups
 pub mod Replies
 pub mod Strands
+pub mod Pairs

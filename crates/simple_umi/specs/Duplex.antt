@@ -6,8 +6,9 @@ use lib.ListN.{length, take, drop}
 use Rattle.words.specs.Choice.{if_then_else_}
 use Rattle.words.specs.Lists.{keep, isEmpty, sameBytes}
 use Rattle.refusals.specs.Result.{Result, accepted, andThen}
-use Rattle.simple_umi.specs.declared.caller.SimpleConsensusCaller.{SimpleConsensusCaller}
-use Rattle.simple_umi.specs.Consensus.{Found, withBuilder, consensusOf}
+use Rattle.umi_groups.specs.Found.{Found}
+use Rattle.simple_consensus.specs.declared.caller.SimpleConsensusCaller.{SimpleConsensusCaller}
+use Rattle.simple_consensus.specs.Consensus.{withBuilder, consensusOf}
 
 -- the string ends in / and the letter
 unfoldable pub endsIn : ℕ → List ℕ → Bool
@@ -22,13 +23,18 @@ pub record FoundDuplex : Type 0 where
   pub found : Found
   pub hadErrorsB : Bool
 
--- /B's string where /A's is empty
+-- both with this string
+abbrev pub pairing : Found → Found → List ℕ → FoundDuplex
+pairing a b text = record { found = record { text = text; hadErrors = a .hadErrors; builder = b .builder }; hadErrorsB = b .hadErrors }
+
+-- /A's string, and /B's where that is empty
+abbrev pub either : List ℕ → List ℕ → List ℕ
+either a b =
+    if isEmpty a then b
+    else a
+
 unfoldable pub paired : Found → Found → FoundDuplex
-paired a b =
-    let text =
-    if isEmpty (a .text) then b .text
-    else a .text in
-    record { found = record { text = text; hadErrors = a .hadErrors; builder = b .builder }; hadErrorsB = b .hadErrors }
+paired a b = pairing a b (either (a .text) (b .text))
 
 -- each strand as `consensus` treats a set, /A first: a refusal of either is a refusal of the whole
 unfoldable pub duplexOf : SimpleConsensusCaller → List (List ℕ) → Result FoundDuplex

@@ -1,6 +1,3 @@
-pub mod Strings
-pub mod Verdicts
-pub mod Consensus
 pub mod Duplex
 pub mod Answers
-pub mod Places
+pub mod Pairs

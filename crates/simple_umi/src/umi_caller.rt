@@ -6,18 +6,19 @@ ghost use lib.ListN.{length};
 ghost use Rattle.refusals.specs.Refusals.{numberIn};
 ghost use Rattle.refusals.specs.Result.{andThen};
 ghost use Rattle.string_set.specs.StringSet.{readSet};
-ghost use Rattle.simple_umi.specs.Consensus.{defaultCaller, consensusOf};
-ghost use Rattle.simple_umi.specs.Answers.{consensusIn, duplexIn, flaggedOf, flaggedNumber, flaggedLength, duplexAnswerOf, duplexNumber, duplexLength, pairFound, bufferAfter, callerAfter};
+ghost use Rattle.umi_groups.specs.Found.{flaggedOf, flaggedLength, foundLength, bufferAfter};
+ghost use Rattle.simple_consensus.specs.Consensus.{defaultCaller, consensusOf};
+ghost use Rattle.simple_consensus.specs.Answers.{callerAfter, groupConsensusOf};
+ghost use Rattle.simple_umi.specs.Answers.{consensusIn, duplexIn, flaggedNumber, duplexAnswerOf, duplexNumber, duplexLength, pairFound};
 use crate::answers::DuplexAnswer;
-use crate::answers::FlaggedAnswer;
-use crate::caller::SimpleConsensusCaller;
-use crate::caller::with_builder;
-use crate::duplex::duplex_group;
-use crate::group::consensus_group;
-use refusals::Refusal;
-use refusals::Verdict;
+use crate::duplex::caller_after;
+use crate::duplex::set_pair;
+use simple_consensus::GroupConsensus;
+use simple_consensus::SimpleConsensusCaller;
+use simple_consensus::group_consensus;
 use string_set::Reading;
 use string_set::read_places;
+use umi_groups::FlaggedAnswer;
 
 pub struct SimpleUmiConsensusCaller {
     pub caller: SimpleConsensusCaller,
@@ -61,25 +62,12 @@ impl SimpleUmiConsensusCaller {
         ensures fits { λ _. ⌜ (255 ≤ length (now (out .entry)) → consensusIn (self .caller) (now (set .entry)) (now (out .entry)) ≡ andThen (readSet (now (set .entry))) (consensusOf (self .caller))) ⌝ }
     {
         let caller = self.caller;
-        let mut places = [0; 255];
-        match read_places(set, &mut places) {
-            Reading::Refused(r) => flagged_refused(caller, r),
-            Reading::Strings(n) => {
-                let group = consensus_group(caller, set, &places[..n], 0, out);
-                let verdict = group.verdict;
-                let length = group.length;
-                let had_errors = group.had_errors;
-                let builder = group.builder;
-                match verdict {
-                    Verdict::Refused(r) => flagged_refused(caller, r),
-                    Verdict::Sound => FlaggedConsensus {
-                        caller: Self {
-                            caller: with_builder(caller, builder),
-                        },
-                        answer: FlaggedAnswer::Given(length, had_errors),
-                    },
-                }
-            }
+        let called = set_consensus(caller, set, out);
+        let after = called.caller;
+        let answer = called.answer;
+        FlaggedConsensus {
+            caller: Self { caller: after },
+            answer,
         }
     }
 
@@ -93,45 +81,30 @@ impl SimpleUmiConsensusCaller {
         ensures number { λ r. ⌜ duplexNumber (r .answer) ≡ numberIn (duplexIn (self .caller) (now (set .entry)) (now (out .entry))) ⌝ }
     {
         let caller = self.caller;
-        let mut places = [0; 255];
-        match read_places(set, &mut places) {
-            Reading::Refused(r) => duplex_refused(caller, r),
-            Reading::Strings(n) => {
-                let pair = duplex_group(caller, set, &places[..n], out);
-                let group = pair.group;
-                let b_errors = pair.had_errors_b;
-                let verdict = group.verdict;
-                let length = group.length;
-                let a_errors = group.had_errors;
-                let builder = group.builder;
-                match verdict {
-                    Verdict::Refused(r) => duplex_refused(caller, r),
-                    Verdict::Sound => DuplexConsensus {
-                        caller: Self {
-                            caller: with_builder(caller, builder),
-                        },
-                        answer: DuplexAnswer::Given(length, a_errors, b_errors),
-                    },
-                }
-            }
+        let pair = set_pair(caller, set, out);
+        let after = pair.caller;
+        let answer = pair.answer;
+        DuplexConsensus {
+            caller: Self {
+                caller: caller_after(caller, after, answer),
+            },
+            answer,
         }
     }
 }
 
-fn flagged_refused(caller: SimpleConsensusCaller, refusal: Refusal) -> FlaggedConsensus
-    ensures { λ r. ⌜ (r .caller .caller ≡ caller) × (r .answer ≡ FlaggedAnswer.Refused refusal) ⌝ }
+// All strings of a set.
+fn set_consensus(caller: SimpleConsensusCaller, set: &[u8], out: &mut [u8]) -> GroupConsensus
+    ensures group { λ r. ⌜ r ≡ groupConsensusOf caller (consensusIn caller (now (set .entry)) (now (out .entry))) ⌝ }
+    ensures lent { λ _. ⌜ now (out .exit) ≡ bufferAfter (now (out .entry)) (consensusIn caller (now (set .entry)) (now (out .entry))) ⌝ }
+    ensures few { λ _. ⌜ foundLength (andThen (readSet (now (set .entry))) (consensusOf caller)) ≤ 255 ⌝ }
 {
-    FlaggedConsensus {
-        caller: SimpleUmiConsensusCaller { caller },
-        answer: FlaggedAnswer::Refused(refusal),
-    }
-}
-
-fn duplex_refused(caller: SimpleConsensusCaller, refusal: Refusal) -> DuplexConsensus
-    ensures { λ r. ⌜ (r .caller .caller ≡ caller) × (r .answer ≡ DuplexAnswer.Refused refusal) ⌝ }
-{
-    DuplexConsensus {
-        caller: SimpleUmiConsensusCaller { caller },
-        answer: DuplexAnswer::Refused(refusal),
+    let mut places = [0; 255];
+    match read_places(set, &mut places) {
+        Reading::Refused(r) => GroupConsensus {
+            caller,
+            answer: FlaggedAnswer::Refused(r),
+        },
+        Reading::Strings(n) => group_consensus(caller, set, &places[..n], 0, out),
     }
 }

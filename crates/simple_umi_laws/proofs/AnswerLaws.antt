@@ -21,13 +21,14 @@ use Rattle.base_builder.specs.declared.builder.ConsensusBaseBuilder.{ConsensusB
 use Rattle.base_builder.specs.Builder.{resetOf}
 use Rattle.umi_column.specs.Dna.{isDnaBase}
 use Rattle.umi_column.proofs.Columns.{column-byte-kind, column-byte-other}
-use Rattle.simple_umi.specs.declared.caller.SimpleConsensusCaller.{SimpleConsensusCaller}
+use Rattle.simple_consensus.specs.declared.caller.SimpleConsensusCaller.{SimpleConsensusCaller}
 use Rattle.umi_rows.specs.Rows.{differsFrom}
-use Rattle.simple_umi.specs.Strings.{firstOf, columnOf, columnsOf, alike, isFamily}
-use Rattle.simple_umi.specs.Consensus.{Found, withBuilder, builderAt, byteOf, familyFound, firstFound, found, consensusOf, umisOf, callConsensusOf}
+use Rattle.simple_consensus.specs.Strings.{firstOf, columnOf, columnsOf, alike, isFamily}
+use Rattle.umi_groups.specs.Found.{Found}
+use Rattle.simple_consensus.specs.Consensus.{withBuilder, builderAt, byteOf, familyFound, firstFound, found, consensusOf, umisOf, callConsensusOf}
 use Rattle.simple_umi_laws.specs.Laws.{isBaseOrN, builderAfter, Answered}
 use Rattle.simple_umi_laws.proofs.Resets.{column-start, columns-reset, columns-last}
-use Rattle.simple_umi.proofs.Groups.{said-first, umis-alike, umis-unlike, call-none, call-some}
+use Rattle.simple_consensus.proofs.Groups.{said-first, umis-alike, umis-unlike, call-none, call-some}
 use Rattle.simple_umi_laws.proofs.ConditionLaws.{one-alike}
 
 -- ---- lists that a rule gives

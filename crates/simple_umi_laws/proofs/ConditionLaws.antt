@@ -14,29 +14,28 @@ use Rattle.words.specs.Lists.{any, isEmpty}
 use Rattle.refusals.specs.declared.Refusal.{Refusal}
 use Rattle.refusals.specs.declared.Refusal.the-variants.{NoStrings, LengthsDiffer, NotAscii}
 use Rattle.refusals.specs.declared.Verdict.the-variants.{Sound, Refused}
+use Rattle.refusals.specs.Result.{firstRefused}
 use Rattle.umi_column.specs.Verdicts.{verdictOf}
 use Rattle.umi_rows.specs.Rows.{isHigh}
-use Rattle.simple_umi.specs.Strings.{firstOf, columnsOf, alike, isFamily}
-use Rattle.simple_umi.specs.Verdicts.{firstRefusal, familyVerdict, consensusVerdict, umisVerdict, callVerdict}
-use Rattle.simple_umi.specs.Consensus.{Found}
+use Rattle.simple_consensus.specs.Strings.{firstOf, columnsOf, alike, isFamily}
+use Rattle.simple_consensus.specs.Verdicts.{familyVerdict, consensusVerdict, umisVerdict, callVerdict}
+use Rattle.umi_groups.specs.Found.{Found}
 use Rattle.simple_umi_laws.specs.Laws.{sound, Conditions, Room}
-use Rattle.simple_umi.proofs.Rows.{columns-length, column-at}
-use Rattle.simple_umi.proofs.Groups.{no-family}
-use Rattle.simple_umi.proofs.Replies.{room-short, room-enough}
+use Rattle.simple_consensus.proofs.Rows.{columns-length, column-at}
+use Rattle.simple_consensus.proofs.Groups.{no-family}
+use Rattle.umi_groups.proofs.Room.{room-short, room-enough}
 
 -- ---- columns
 
 first-faulty : (cs : List (List ℕ)) (k : ℕ) (r : Refusal) → k < length cs
     → ((j : ℕ) → j < k → sound (getD cs j []))
     → verdictOf (getD cs k []) ≡ Refused r
-    → firstRefusal cs ≡ Refused r
-unfolding firstRefusal
+    → firstRefused verdictOf cs ≡ Refused r
 first-faulty [] k r h f e = absurd (not-suc-le-zero h)
 first-faulty (c ∷ cs) zero r h f e = rw e
 first-faulty (c ∷ cs) (suc k) r h f e = rw (f 0 (omega arith)) (first-faulty cs k r (le-of-suc-le-suc h) (λ j l. f (suc j) (omega arith)) e)
 
-none-faulty : (cs : List (List ℕ)) → ((j : ℕ) → j < length cs → sound (getD cs j [])) → firstRefusal cs ≡ Sound
-unfolding firstRefusal
+none-faulty : (cs : List (List ℕ)) → ((j : ℕ) → j < length cs → sound (getD cs j [])) → firstRefused verdictOf cs ≡ Sound
 none-faulty [] f = refl
 none-faulty (c ∷ cs) f = rw (f 0 (omega arith)) (none-faulty cs (λ j l. f (suc j) (omega arith)))
 
@@ -84,7 +83,7 @@ module _ (strings : List (List ℕ)) where
   unfolding consensusVerdict familyVerdict
   high-family h k = rw (h, k)
 
-  low-family : isFamily strings ≡ true → any (any isHigh) strings ≡ false → consensusVerdict strings ≡ firstRefusal (columnsOf (length (firstOf strings)) strings)
+  low-family : isFamily strings ≡ true → any (any isHigh) strings ≡ false → consensusVerdict strings ≡ firstRefused verdictOf (columnsOf (length (firstOf strings)) strings)
   unfolding consensusVerdict familyVerdict
   low-family h k = rw (h, k)
 

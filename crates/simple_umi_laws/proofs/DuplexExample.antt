@@ -23,15 +23,17 @@ use Rattle.umi_column.specs.Dna.{toAsciiUppercase, isDnaBase}
 use Rattle.umi_column.specs.Verdicts.{isMixed, verdictOf}
 use Rattle.umi_column.specs.Calls.{addedAll, namedByte}
 use Rattle.umi_rows.specs.Rows.{differsFrom}
-use Rattle.simple_umi.specs.Strings.{columnsOf, alike, isFamily}
-use Rattle.simple_umi.specs.Verdicts.{firstRefusal, familyVerdict, consensusVerdict}
-use Rattle.simple_umi.specs.Consensus.{Found, callerAt, defaultCaller, withBuilder, builderAt, byteOf, familyFound, firstFound, found, consensusOf}
+use Rattle.simple_consensus.specs.Strings.{columnsOf, alike, isFamily}
+use Rattle.simple_consensus.specs.Verdicts.{familyVerdict, consensusVerdict}
+use Rattle.umi_groups.specs.Found.{Found}
+use Rattle.simple_consensus.specs.Consensus.{callerAt, defaultCaller, withBuilder, builderAt, byteOf, familyFound, firstFound, found, consensusOf}
 use Rattle.simple_umi.specs.Duplex.{endsIn, strandOf, duplexOf}
-use Rattle.simple_umi.specs.Answers.{roomFor, duplexIn}
+use Rattle.umi_groups.specs.Found.{roomFor}
+use Rattle.simple_umi.specs.Answers.{duplexIn}
 use Rattle.umi_family.specs.Family.{bytesBy}
 use Rattle.simple_umi_laws.specs.DuplexLaws.{pairing}
 use Rattle.simple_umi_laws.specs.DuplexExample.{exampleSet, Example}
-use Rattle.simple_umi.proofs.Groups.{bytes-by}
+use Rattle.simple_consensus.proofs.Groups.{bytes-by}
 use Rattle.simple_umi_laws.proofs.DefaultEntry.{right, wrong, correct-entry, error-entry}
 use Rattle.simple_umi_laws.proofs.DuplexLaws.{duplex}
 
@@ -81,7 +83,7 @@ unfolding consensusVerdict isFamily alike found firstFound
 said-a = refl
 
 sound-b : consensusVerdict strandB ≡ Sound
-unfolding consensusVerdict isFamily alike familyVerdict columnsOf listed firstRefusal verdictOf isMixed isDnaBase toAsciiUppercase
+unfolding consensusVerdict isFamily alike familyVerdict columnsOf listed verdictOf isMixed isDnaBase toAsciiUppercase
 sound-b = refl
 
 found-b : found defaultCaller strandB ≡ foundB

@@ -14,10 +14,11 @@ use Rattle.refusals.specs.declared.Verdict.{Verdict}
 use Rattle.refusals.specs.declared.Verdict.the-variants.{Sound, Refused}
 use Rattle.refusals.specs.Result.{Result, refused, accepted, judged, andThen}
 use Rattle.base_builder.specs.declared.builder.ConsensusBaseBuilder.{ConsensusBaseBuilder}
-use Rattle.simple_umi.specs.declared.caller.SimpleConsensusCaller.{SimpleConsensusCaller}
-use Rattle.simple_umi.specs.Strings.{firstOf, columnOf, isFamily}
-use Rattle.simple_umi.specs.Verdicts.{consensusVerdict}
-use Rattle.simple_umi.specs.Consensus.{Found, withBuilder, builderAt, found, consensusOf}
+use Rattle.simple_consensus.specs.declared.caller.SimpleConsensusCaller.{SimpleConsensusCaller}
+use Rattle.simple_consensus.specs.Strings.{firstOf, columnOf, isFamily}
+use Rattle.simple_consensus.specs.Verdicts.{consensusVerdict}
+use Rattle.umi_groups.specs.Found.{Found}
+use Rattle.simple_consensus.specs.Consensus.{withBuilder, builderAt, found, consensusOf}
 use Rattle.simple_umi.specs.Duplex.{FoundDuplex, endsIn, strandOf, paired, duplexOf}
 use Rattle.simple_umi_laws.specs.DuplexLaws.{Strand, Duplex, pairing, noColumn}
 use Rattle.simple_umi.proofs.Strands.{strand-kept, strand-left}

@@ -18,10 +18,12 @@ use Rattle.umi_column.specs.Calls.{columnBuilder, columnByte, addedAll, namedBy
 use Rattle.umi_column.proofs.Columns.{column-builder, column-byte}
 use Rattle.string_set.specs.Readers.{byte, front, many}
 use Rattle.string_set.specs.StringSet.{string, stringSet, readSet}
-use Rattle.simple_umi.specs.Strings.{columnsOf, alike, isFamily}
-use Rattle.simple_umi.specs.Verdicts.{firstRefusal, familyVerdict, consensusVerdict, umisVerdict, callVerdict}
-use Rattle.simple_umi.specs.Consensus.{callerAt, familyFound, firstFound, found}
-use Rattle.simple_umi.specs.Answers.{roomFor, callConsensusIn, consensusIn, consensusUmisIn}
+use Rattle.simple_consensus.specs.Strings.{columnsOf, alike, isFamily}
+use Rattle.simple_consensus.specs.Verdicts.{familyVerdict, consensusVerdict, umisVerdict, callVerdict}
+use Rattle.simple_consensus.specs.Consensus.{callerAt, familyFound, firstFound, found}
+use Rattle.umi_groups.specs.Found.{roomFor}
+use Rattle.simple_consensus.specs.Answers.{callConsensusIn, consensusUmisIn}
+use Rattle.simple_umi.specs.Answers.{consensusIn}
 use Rattle.simple_umi_laws.specs.Examples.{gives, refuses, givesNone, claims}
 use Rattle.simple_umi_laws.proofs.DefaultEntry.{right, wrong, correct-entry, error-entry}
 
@@ -34,5 +36,5 @@ unfolding laneByte
 lane-byte column = sym (column-byte 90 90 20 column (newAt 90)) ∙ rw (← column-builder 90 20 column (newAt 90), correct-entry, error-entry)
 
 pub examples : T (all claims)
-unfolding laneByte namedByte addedAll resetOf newAt cleared sub div le isNan ofBits absOf lanes baseOf laneOfByte fgbioTie fgbioStep scan fgbioUniqueMaxIndex notMinusInfinity uniqueMaxIndexWith movedBy valueOf countOf total isFull observed addedBy toAsciiUppercase isDnaBase listed isMixed verdictOf byte front many string stringSet readSet columnsOf alike isFamily firstRefusal familyVerdict consensusVerdict umisVerdict callVerdict callerAt familyFound firstFound found roomFor callConsensusIn consensusIn consensusUmisIn gives refuses givesNone
+unfolding laneByte namedByte addedAll resetOf newAt cleared sub div le isNan ofBits absOf lanes baseOf laneOfByte fgbioTie fgbioStep scan fgbioUniqueMaxIndex notMinusInfinity uniqueMaxIndexWith movedBy valueOf countOf total isFull observed addedBy toAsciiUppercase isDnaBase listed isMixed verdictOf byte front many string stringSet readSet columnsOf alike isFamily familyVerdict consensusVerdict umisVerdict callVerdict callerAt familyFound firstFound found roomFor callConsensusIn consensusIn consensusUmisIn gives refuses givesNone
 examples = simp lane-byte tt

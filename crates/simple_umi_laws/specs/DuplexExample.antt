@@ -5,8 +5,9 @@ use mathlib.Core.List.{List, [], _∷_}
 use Prim.Native.Nat.{ℕ, _≤_}
 use lib.ListN.{length, drop}
 use Rattle.simple_umi.specs.declared.answers.DuplexAnswer.the-variants.{Given}
-use Rattle.simple_umi.specs.Consensus.{defaultCaller}
-use Rattle.simple_umi.specs.Answers.{duplexIn, duplexAnswerOf, pairFound, bufferAfter}
+use Rattle.simple_consensus.specs.Consensus.{defaultCaller}
+use Rattle.simple_umi.specs.Answers.{duplexIn, duplexAnswerOf, pairFound}
+use Rattle.umi_groups.specs.Found.{bufferAfter}
 
 -- the four strings in their file form
 abbrev pub exampleSet : List ℕ

@@ -6,9 +6,10 @@ use Prim.Native.Nat.{ℕ, suc}
 use lib.ListN.{length}
 use Rattle.refusals.specs.declared.Refusal.{Refusal}
 use Rattle.refusals.specs.Result.{refused, accepted}
-use Rattle.simple_umi.specs.declared.caller.SimpleConsensusCaller.{SimpleConsensusCaller}
-use Rattle.simple_umi.specs.Strings.{firstOf, columnOf, isFamily}
-use Rattle.simple_umi.specs.Consensus.{Found, withBuilder, builderAt, consensusOf}
+use Rattle.simple_consensus.specs.declared.caller.SimpleConsensusCaller.{SimpleConsensusCaller}
+use Rattle.simple_consensus.specs.Strings.{firstOf, columnOf, isFamily}
+use Rattle.umi_groups.specs.Found.{Found}
+use Rattle.simple_consensus.specs.Consensus.{withBuilder, builderAt, consensusOf}
 use Rattle.simple_umi.specs.Duplex.{FoundDuplex, endsIn, strandOf, duplexOf}
 
 -- which strings a strand has

@@ -8,8 +8,10 @@ use Rattle.words.specs.Lists.{isEmpty, sameBytes}
 use Rattle.refusals.specs.Refusals.{numberOf}
 use Rattle.refusals.specs.Result.{Result, refused, accepted}
 use Rattle.string_set.specs.StringSet.{readSet}
-use Rattle.simple_umi.specs.Consensus.{Found, defaultCaller, consensusOf, umisOf, callConsensusOf}
-use Rattle.simple_umi.specs.Answers.{callConsensusIn, consensusIn, consensusUmisIn}
+use Rattle.umi_groups.specs.Found.{Found}
+use Rattle.simple_consensus.specs.Consensus.{defaultCaller, consensusOf, umisOf, callConsensusOf}
+use Rattle.simple_consensus.specs.Answers.{callConsensusIn, consensusUmisIn}
+use Rattle.simple_umi.specs.Answers.{consensusIn}
 
 -- this string and this flag
 unfoldable pub gives : Result Found → List ℕ → Bool → Bool

@@ -17,12 +17,13 @@ use Rattle.base_builder.specs.History.{Event, run}
 use Rattle.umi_column.specs.Dna.{isDnaBase}
 use Rattle.umi_column.specs.Verdicts.{verdictOf}
 use Rattle.umi_column.specs.Calls.{columnEvents}
-use Rattle.simple_umi.specs.declared.caller.SimpleConsensusCaller.{SimpleConsensusCaller}
+use Rattle.simple_consensus.specs.declared.caller.SimpleConsensusCaller.{SimpleConsensusCaller}
 use Rattle.umi_rows.specs.Rows.{isHigh, differsFrom}
-use Rattle.simple_umi.specs.Strings.{firstOf, columnOf, columnsOf, alike, isFamily}
-use Rattle.simple_umi.specs.Verdicts.{consensusVerdict, umisVerdict, callVerdict}
-use Rattle.simple_umi.specs.Consensus.{Found, withBuilder, builderAt, found, consensusOf, umisOf, callConsensusOf}
-use Rattle.simple_umi.specs.Answers.{roomFor}
+use Rattle.simple_consensus.specs.Strings.{firstOf, columnOf, columnsOf, alike, isFamily}
+use Rattle.simple_consensus.specs.Verdicts.{consensusVerdict, umisVerdict, callVerdict}
+use Rattle.umi_groups.specs.Found.{Found}
+use Rattle.simple_consensus.specs.Consensus.{withBuilder, builderAt, found, consensusOf, umisOf, callConsensusOf}
+use Rattle.umi_groups.specs.Found.{roomFor}
 
 -- ---- what is refused
 

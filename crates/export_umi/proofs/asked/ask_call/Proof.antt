@@ -1,7 +1,7 @@
 -- `ask_call`: the answer in one form. Assumes nothing.
 use mathlib.Core.Path.{refl}
 use borrow.Author.Needs.{needs}
-use Rattle.simple_umi.specs.Answers.{callConsensusIn, answerOf, answerLength}
+use Rattle.simple_consensus.specs.Answers.{callConsensusIn, answerOf, answerLength}
 use Rattle.export_umi.specs.Codes.{answerCode}
 use Rattle.export_umi.proofs.Laws.{answer-length, asked}
 use Rattle.export_umi.proofs.asked.ask_call.Statement.{statement}

@@ -1,6 +1,7 @@
 -- `ask_consensus`: as `ask_call`, through the wrapper. Assumes nothing.
 use borrow.Author.Needs.{needs}
-use Rattle.simple_umi.specs.Answers.{consensusIn, flaggedOf, flaggedLength}
+use Rattle.simple_umi.specs.Answers.{consensusIn}
+use Rattle.umi_groups.specs.Found.{flaggedOf, flaggedLength}
 use Rattle.export_umi.specs.Codes.{flaggedCode}
 use Rattle.export_umi.proofs.Laws.{flagged-length, asked}
 use Rattle.export_umi.proofs.asked.ask_consensus.Statement.{statement}

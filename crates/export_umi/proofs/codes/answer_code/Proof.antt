@@ -1,8 +1,8 @@
 -- `answer_code`: a refusal's number, or the code of what is given. Assumes nothing.
 use mathlib.Core.Path.{sym, _∙_, ap, subst}
 use Prim.Native.Nat.{_≤_}
-use Rattle.simple_umi.specs.declared.answers.Answer.{Answer}
-use Rattle.simple_umi.specs.Answers.{answerLength}
+use Rattle.simple_consensus.specs.declared.answers.Answer.{Answer}
+use Rattle.simple_consensus.specs.Answers.{answerLength}
 use Rattle.export_umi.specs.Codes.{answerCode}
 use borrow.Author.Needs.{needs}
 use Rattle.export_umi.proofs.codes.answer_code.Statement.{statement}

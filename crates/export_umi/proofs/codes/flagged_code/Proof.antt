@@ -1,8 +1,8 @@
 -- `flagged_code`: a refusal's number, or the code of what is given. Assumes nothing.
 use mathlib.Core.Path.{sym, _∙_, ap, subst}
 use Prim.Native.Nat.{_≤_}
-use Rattle.simple_umi.specs.declared.answers.FlaggedAnswer.{FlaggedAnswer}
-use Rattle.simple_umi.specs.Answers.{flaggedLength}
+use Rattle.umi_groups.specs.declared.answers.FlaggedAnswer.{FlaggedAnswer}
+use Rattle.umi_groups.specs.Found.{flaggedLength}
 use Rattle.export_umi.specs.Codes.{flaggedCode}
 use borrow.Author.Needs.{needs}
 use Rattle.export_umi.proofs.codes.flagged_code.Statement.{statement}

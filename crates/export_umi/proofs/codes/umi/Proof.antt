@@ -2,10 +2,12 @@
 use mathlib.Core.Path.{refl, _∙_, ap}
 use borrow.Author.Tests.{ne-eqb}
 use Rattle.refusals.specs.Result.{Result}
-use Rattle.simple_umi.specs.declared.caller.SimpleConsensusCaller.{SimpleConsensusCaller}
-use Rattle.simple_umi.specs.Consensus.{defaultCaller}
+use Rattle.simple_consensus.specs.declared.caller.SimpleConsensusCaller.{SimpleConsensusCaller}
+use Rattle.simple_consensus.specs.Consensus.{defaultCaller}
 use Rattle.simple_umi.specs.Duplex.{FoundDuplex}
-use Rattle.simple_umi.specs.Answers.{callConsensusIn, consensusIn, duplexIn, answerOf, flaggedOf, duplexAnswerOf, pairFound, bufferAfter}
+use Rattle.simple_consensus.specs.Answers.{callConsensusIn, answerOf}
+use Rattle.simple_umi.specs.Answers.{consensusIn, duplexIn, duplexAnswerOf, pairFound}
+use Rattle.umi_groups.specs.Found.{flaggedOf, bufferAfter}
 use Rattle.export_umi.specs.Codes.{answerCode, flaggedCode, duplexCode, umiReply, umiBuffer}
 use Rattle.export_umi.proofs.Laws.{coded}
 use borrow.Author.Needs.{needs}

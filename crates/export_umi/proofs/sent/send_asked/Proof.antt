@@ -5,7 +5,7 @@ use borrow.Author.Needs.{needs}
 use lib.ListN.{length}
 use lib.Seq.{length-take-le}
 use Rattle.refusals.specs.Result.{Result}
-use Rattle.simple_umi.specs.Consensus.{Found}
+use Rattle.umi_groups.specs.Found.{Found}
 use Rattle.export_umi.specs.declared.asked.Asked.{Asked}
 use Rattle.export_umi.specs.Asked.{foundBy, codeBy}
 use Rattle.export_umi.specs.Sent.{room}

@@ -1,0 +1,3 @@
+pub mod LengthLoops
+pub mod Room
+pub mod Groups
