@@ -21,7 +21,7 @@ pub type Way = (&'static str, fn(u8, u8, u8, &[u8], &mut [u8]) -> u64);
 
 /// All must give the same: with borrowed tables; where each step takes the builder and the tables by
 /// value; and by the functions on a lent builder.
-pub static WAYS: [Way; 3] = [
+pub static WAYS: &[Way] = &[
     ("consensus_history", exports::history),
     ("consensus_history_by_value", exports::history_by_value),
     ("consensus_history_lent", exports::history_lent),

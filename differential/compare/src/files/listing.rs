@@ -153,7 +153,7 @@ macro_rules! functions {
 }
 
 /// One more is compared by its line here, on every file that there is.
-pub static FUNCTIONS: [Function; 3] = functions! {
+pub static FUNCTIONS: &[Function] = &functions! {
     list: exports::list, text_of;
     listing: exports::listing, |found| by_number(found, text);
     records: exports::records, |found| by_number(found, records);
