@@ -6,9 +6,9 @@ use lib.Dec.{eqb}
 use Rattle.words.specs.Choice.{if_then_else_}
 use Rattle.refusals.specs.Refusals.{numberOf}
 use Rattle.simple_consensus.specs.declared.answers.Answer.{Answer}
-use Rattle.simple_umi.specs.declared.answers.Answer.the-variants as answer
+use Rattle.simple_consensus.specs.declared.answers.Answer.the-variants as answer
 use Rattle.umi_groups.specs.declared.answers.FlaggedAnswer.{FlaggedAnswer}
-use Rattle.simple_umi.specs.declared.answers.FlaggedAnswer.the-variants as flagged
+use Rattle.umi_groups.specs.declared.answers.FlaggedAnswer.the-variants as flagged
 use Rattle.simple_umi.specs.declared.answers.DuplexAnswer.{DuplexAnswer}
 use Rattle.simple_umi.specs.declared.answers.DuplexAnswer.the-variants as duplex
 use Rattle.simple_consensus.specs.Consensus.{defaultCaller}

@@ -15,7 +15,7 @@ use Rattle.refusals.specs.Refusals.{numberIn}
 use Rattle.refusals.specs.Result.{Result, refused, accepted, andThen}
 use Rattle.string_set.specs.StringSet.{readSet}
 use Rattle.umi_groups.specs.declared.answers.FlaggedAnswer.{FlaggedAnswer}
-use Rattle.simple_umi.specs.declared.answers.FlaggedAnswer.the-variants as answer
+use Rattle.umi_groups.specs.declared.answers.FlaggedAnswer.the-variants as answer
 use Rattle.simple_consensus.specs.declared.caller.SimpleConsensusCaller.{SimpleConsensusCaller}
 use Rattle.umi_groups.specs.Found.{Found}
 use Rattle.simple_consensus.specs.Consensus.{defaultCaller, consensusOf}
