@@ -102,8 +102,8 @@ unfoldable pub added : List Float → List Float → ℕ → ℕ → ConsensusBa
 added correct error base q b = addedBy (getD correct (entryOf q) nan) (getD error (entryOf q) nan) base b
 
 -- the answer: refused where a base meets a full builder
-unfoldable pub answerOf : ℕ → ConsensusBaseBuilder → Answer
-answerOf base b =
+unfoldable pub addAnswer : ℕ → ConsensusBaseBuilder → Answer
+addAnswer base b =
     if eqb (laneOfByte base) noLane then Accepted
     else if isFull b then Refused
     else Accepted

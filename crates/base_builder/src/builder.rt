@@ -2,7 +2,7 @@
 // observed. It goes in by value and comes back.
 ghost use mathlib.Core.Path.{_≡_};
 ghost use Rattle.tie_rules.specs.Lanes.{lane};
-ghost use Rattle.base_builder.specs.Builder.{total as totalOf, cleared as clearedOf, newAt, withTieRule, resetOf, observedBy, entryOf, addedBy, added, answerOf, addNumber, refusalOf, contributionsOf, observationsForBase};
+ghost use Rattle.base_builder.specs.Builder.{total as totalOf, cleared as clearedOf, newAt, withTieRule, resetOf, observedBy, entryOf, addedBy, added, addAnswer, addNumber, refusalOf, contributionsOf, observationsForBase};
 use lane_sums::LaneSums;
 use lane_sums::count;
 use lane_sums::moved_lanes;
@@ -87,7 +87,7 @@ impl ConsensusBaseBuilder {
     // One observation. The tables are copied at each call: a loop takes `add_with`.
     pub fn add(self, base: u8, qual: PhredScore, tables: AdjustedProbabilityTables) -> Addition
         ensures builder { λ r. ⌜ r .builder ≡ added (tables .correct) (tables .«error_per_alt») base (qual .0) self ⌝ }
-        ensures answer { λ r. ⌜ r .answer ≡ answerOf base self ⌝ }
+        ensures answer { λ r. ⌜ r .answer ≡ addAnswer base self ⌝ }
         ensures number { λ r. ⌜ addNumber (r .answer) ≡ refusalOf base self ⌝ }
     {
         let correct = tables.correct;
@@ -153,7 +153,7 @@ pub fn add_with(
     error_per_alt: &[f64; 94],
 ) -> Addition
     ensures builder { λ r. ⌜ r .builder ≡ added (now (correct .entry)) (now («error_per_alt» .entry)) base (qual .0) builder ⌝ }
-    ensures answer { λ r. ⌜ r .answer ≡ answerOf base builder ⌝ }
+    ensures answer { λ r. ⌜ r .answer ≡ addAnswer base builder ⌝ }
     ensures number { λ r. ⌜ addNumber (r .answer) ≡ refusalOf base builder ⌝ }
 {
     let q = entry(qual);
@@ -177,7 +177,7 @@ pub fn add_entry(
     error_per_alt: f64,
 ) -> Addition
     ensures builder { λ r. ⌜ r .builder ≡ addedBy correct «error_per_alt» base builder ⌝ }
-    ensures answer { λ r. ⌜ r .answer ≡ answerOf base builder ⌝ }
+    ensures answer { λ r. ⌜ r .answer ≡ addAnswer base builder ⌝ }
     ensures number { λ r. ⌜ addNumber (r .answer) ≡ refusalOf base builder ⌝ }
 {
     let k = lane_of(base);

@@ -10,7 +10,7 @@ use Rattle.tie_rules.specs.Lanes.{noLane, laneOfByte}
 use Rattle.base_builder.specs.declared.builder.ConsensusBaseBuilder.{ConsensusBaseBuilder}
 use Rattle.base_builder.specs.declared.builder.Answer.{Answer}
 use Rattle.base_builder.specs.declared.builder.Answer.the-variants.{Accepted, Refused}
-use Rattle.base_builder.specs.Builder.{isFull, addedBy, added, answerOf, addNumber}
+use Rattle.base_builder.specs.Builder.{isFull, addedBy, added, addAnswer, addNumber}
 use Rattle.base_builder_laws.specs.AddConditions.{AddConditions}
 
 -- the answer, where the byte is no base (n) and where the builder is full (f)
@@ -36,7 +36,7 @@ said-unchanged false true h b c = refl
 said-unchanged false false h b c = absurd (omega arith)
 
 pub add-conditions : (base : ℕ) (b : ConsensusBaseBuilder) → AddConditions base b
-unfolding answerOf added addedBy
+unfolding addAnswer added addedBy
 add-conditions base b =
     let n = eqb (laneOfByte base) noLane in
     record {

@@ -13,10 +13,10 @@ use Rattle.words.proofs.Claims.{below}
 use Rattle.float.specs.Methods.{absOf, betweenOf, floorOf}
 use Rattle.elementary_tables.specs.ExpTable.{expRowOf}
 use Rattle.elementary_tables.specs.LnTable.{lnRowOf}
-use Rattle.elementary.specs.Fma.{headOf, lostOf, productErrorOf, fmaSmallProductOf, fmaLargeProductOf}
+use Rattle.elementary.specs.Fma.{leadingDigits, lostOf, productErrorOf, fmaSmallProductOf, fmaLargeProductOf}
 use Rattle.elementary.specs.Exp.{seriesOf, powerOfTwoOf, scaledOf, from0Of, nearOf, expOf}
 use Rattle.elementary.specs.ExpMinusOne.{correctionOf, nearZeroOf, shiftedOf, expMinusOneOf}
-use Rattle.elementary.specs.LnOnePlus.{reducedOf, expansionOf, joinedOf, numberOf, lnOnePlusOf}
+use Rattle.elementary.specs.LnOnePlus.{reducedOf, expansionOf, joinedOf, lnOnePlusOfNumber, lnOnePlusOf}
 use Rattle.elementary.specs.Ln.{ratioOf, normalOf, lnOf}
 use Rattle.phred.specs.Phred.{lnZero, phredToLnErrorProb, lnOneMinusExp, lnNot, log1pexpOf, lnAMinusB, lnSumExpGeneral, lnSumExp, twoTrials, lnErrorProbTwoTrials}
 use Rattle.rate_tables.specs.Adjusted.{adjustedError, correctAt, errorPerAltAt, adjustedTables}
@@ -26,7 +26,7 @@ use Rattle.lane_sums.specs.Observation.{movedBy}
 use Rattle.base_builder_laws.specs.Corners.{sinksAt, aboutLn, atQuality0, NanAfter}
 
 sinks : T (everyFrom sinksAt 0 94)
-unfolding add sub mul div neg lt le eq ne isNan ofBits toBits ofInt headOf lostOf productErrorOf fmaSmallProductOf fmaLargeProductOf expRowOf seriesOf powerOfTwoOf scaledOf from0Of nearOf expOf absOf betweenOf floorOf lnRowOf ratioOf normalOf reducedOf expansionOf joinedOf numberOf lnOnePlusOf lnOf correctionOf nearZeroOf shiftedOf expMinusOneOf phredToLnErrorProb lnOneMinusExp lnNot log1pexpOf lnAMinusB lnSumExpGeneral lnSumExp twoTrials lnErrorProbTwoTrials adjustedError correctAt listed adjustedTables sinksAt everyFrom
+unfolding add sub mul div neg lt le eq ne isNan ofBits toBits ofInt leadingDigits lostOf productErrorOf fmaSmallProductOf fmaLargeProductOf expRowOf seriesOf powerOfTwoOf scaledOf from0Of nearOf expOf absOf betweenOf floorOf lnRowOf ratioOf normalOf reducedOf expansionOf joinedOf lnOnePlusOfNumber lnOnePlusOf lnOf correctionOf nearZeroOf shiftedOf expMinusOneOf phredToLnErrorProb lnOneMinusExp lnNot log1pexpOf lnAMinusB lnSumExpGeneral lnSumExp twoTrials lnErrorProbTwoTrials adjustedError correctAt listed adjustedTables sinksAt everyFrom
 sinks = tt
 
 -- a quality above 93 is read at entry 93, and is 27 or more as that is
@@ -42,7 +42,7 @@ sinks-from-27 q = test (ltb q 94) (λ h. below sinksAt 94 sinks q (ltb-true q 94
 
 -- and at quality 0 about ln(1/3), the others about ln(2/9)
 pub at-quality-0 : T (all atQuality0)
-unfolding add sub mul div neg lt le eq ne isNan ofBits toBits ofInt headOf lostOf productErrorOf fmaSmallProductOf fmaLargeProductOf expRowOf seriesOf powerOfTwoOf scaledOf from0Of nearOf expOf absOf betweenOf floorOf lnRowOf ratioOf normalOf reducedOf expansionOf joinedOf numberOf lnOnePlusOf lnOf correctionOf nearZeroOf shiftedOf expMinusOneOf phredToLnErrorProb lnOneMinusExp lnNot log1pexpOf lnAMinusB lnSumExpGeneral lnSumExp twoTrials lnErrorProbTwoTrials adjustedError correctAt errorPerAltAt listed adjustedTables aboutLn
+unfolding add sub mul div neg lt le eq ne isNan ofBits toBits ofInt leadingDigits lostOf productErrorOf fmaSmallProductOf fmaLargeProductOf expRowOf seriesOf powerOfTwoOf scaledOf from0Of nearOf expOf absOf betweenOf floorOf lnRowOf ratioOf normalOf reducedOf expansionOf joinedOf lnOnePlusOfNumber lnOnePlusOf lnOf correctionOf nearZeroOf shiftedOf expMinusOneOf phredToLnErrorProb lnOneMinusExp lnNot log1pexpOf lnAMinusB lnSumExpGeneral lnSumExp twoTrials lnErrorProbTwoTrials adjustedError correctAt errorPerAltAt listed adjustedTables aboutLn
 at-quality-0 = tt
 
 -- a value of -infinity leaves a compensation that is no number, whatever lane and compensation were

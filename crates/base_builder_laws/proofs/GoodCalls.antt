@@ -18,11 +18,11 @@ use Rattle.unanimous_shortcut.specs.Unanimous.{soleLane}
 use Rattle.base_builder.specs.declared.builder.ConsensusBaseBuilder.{ConsensusBaseBuilder}
 use Rattle.base_builder.specs.Builder.{contributionsOf}
 use Rattle.base_builder.specs.Calls.{unanimousOf, multibaseOf, callFullOf, longWay, callOf}
-use Rattle.base_builder_laws.specs.GoodCalls.{isBase, isCall, repliesWell, GoodCalls}
+use Rattle.base_builder_laws.specs.GoodCalls.{isCalledBase, isCall, repliesWell, GoodCalls}
 use Rattle.base_builder_laws.proofs.OwnTables.{Names}
 use Rattle.base_builder_laws.proofs.Replies.{unanimous-by, multibase-by, full-by}
 
-lane-is-base : (i : ℕ) → i < 4 → isBase (baseOf i) ≡ true
+lane-is-base : (i : ℕ) → i < 4 → isCalledBase (baseOf i) ≡ true
 unfolding baseOf
 lane-is-base zero h = refl
 lane-is-base (suc zero) h = refl

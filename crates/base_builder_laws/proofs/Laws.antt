@@ -28,7 +28,7 @@ use Rattle.lane_sums.specs.declared.observation.Sum.{Sum}
 use Rattle.base_builder.specs.Builder.{total, contributionsOf}
 use Rattle.base_builder.specs.Calls.{unanimousOf, multibaseOf, callFullOf, longWay, callOf}
 use Rattle.base_builder.specs.History.{Event, after}
-use Rattle.base_builder_laws.specs.Counted.{Observation, countedSince, valuesOf, kahan}
+use Rattle.base_builder_laws.specs.Counted.{CountedObservation, countedSince, valuesOf, kahan}
 use Rattle.base_builder_laws.specs.Agrees.{Agrees}
 use Rattle.base_builder.specs.History.{ruled}
 use Rattle.base_builder_laws.specs.Laws.{Laws}
@@ -54,7 +54,7 @@ module _ (xs : List Float) (a : lane xs 0 ≡ plusZero) (c : lane xs 1 ≡ plusZ
   no-lane UlpRelative = rw (a, c, g, t)
   no-lane FgbioCompat = ap (notMinusInfinity xs) fgbio-at
 
-none : (os : List Observation) → length os ≡ 0 → os ≡ []
+none : (os : List CountedObservation) → length os ≡ 0 → os ≡ []
 none [] e = refl
 none (o ∷ os) e = absurd (omega arith)
 
@@ -64,7 +64,7 @@ or-same (Replied short) c full a e = a
 or-same Deferred c full a e = e
 
 -- of a builder that holds what its observations leave
-module _ (t : AdjustedProbabilityTables) (os : List Observation) (b : ConsensusBaseBuilder) (had : Holds t os b) where
+module _ (t : AdjustedProbabilityTables) (os : List CountedObservation) (b : ConsensusBaseBuilder) (had : Holds t os b) where
   in-all : total (b .observations) ≡ length os
   unfolding total
   in-all = rw (had .counts 0 (omega arith), had .counts 1 (omega arith), had .counts 2 (omega arith), had .counts 3 (omega arith)) (had .all)
@@ -76,7 +76,7 @@ module _ (t : AdjustedProbabilityTables) (os : List Observation) (b : ConsensusB
       let most = had .most in
       let nil = none os (omega arith) in
       let at : (i : ℕ) → i < 4 → lane (b .likelihoods) i ≡ plusZero =
-      λ i h. ap (λ (s : Sum). s .lane) (had .sums i h ∙ ap (λ (l : List Observation). kahan (valuesOf t i l)) nil) in
+      λ i h. ap (λ (s : Sum). s .lane) (had .sums i h ∙ ap (λ (l : List CountedObservation). kahan (valuesOf t i l)) nil) in
       no-lane (b .likelihoods) (at 0 (omega arith)) (at 1 (omega arith)) (at 2 (omega arith)) (at 3 (omega arith)) (b .«tie_rule»)
 
   -- the base of its call is that of the rule's lane

@@ -16,7 +16,7 @@ use Rattle.tie_rules.specs.declared.tie_rule.TieRule.{TieRule}
 use Rattle.tie_rules.specs.declared.tie_rule.TieRule.the-variants.{UlpRelative, FgbioCompat}
 use Rattle.tie_rules.proofs.Lanes.{below-at}
 use Rattle.tie_rules.specs.Lanes.{lane}
-use Rattle.tie_rules.specs.Ties.{fgbioTie, fgbioTested, tiesWith, untied, fgbioStep, ulpStep, scan, newLead, unseen, lowest, fgbioUniqueMaxIndex, uniqueMaxIndex, notMinusInfinity, uniqueMaxIndexWith}
+use Rattle.tie_rules.specs.Ties.{fgbioTie, fgbioTested, tiesWith, untied, fgbioStep, ulpStep, scan, newLead, unseen, belowAll, fgbioUniqueMaxIndex, uniqueMaxIndex, notMinusInfinity, uniqueMaxIndexWith}
 use Rattle.base_builder_laws.proofs.Scan.{FgbioUnder, UlpUnder, fgbio-wins, ulp-wins, wins}
 
 -- of another lane, the second half of 'i or ..'
@@ -53,9 +53,9 @@ module _ (xs : List Float) (i : ℕ) (inside : i < 4) (number : finite (lane xs 
       wins fgbioStep xs i (FgbioUnder w) (λ x. fgbioTie x w ≡ false) (fgbio-wins w (fin-number w number)) unseen (λ (s : false ≡ true). clash refl s) 4 inside
       (λ (j : ℕ) (k : j < 4) (d : j ≢ i). (above j k d, (λ (l : i < j). free u j k d l)))
 
-  ulp-scan : scan ulpStep lowest xs 4 ≡ newLead w i
+  ulp-scan : scan ulpStep belowAll xs 4 ≡ newLead w i
   ulp-scan =
-      wins ulpStep xs i (UlpUnder w) (λ _. Unit {0}) (ulp-wins w) lowest (fin-above w number .1) 4 inside
+      wins ulpStep xs i (UlpUnder w) (λ _. Unit {0}) (ulp-wins w) belowAll (fin-above w number .1) 4 inside
       (λ (j : ℕ) (k : j < 4) (d : j ≢ i). (above j k d, (λ (l : i < j). tt)))
 
   pub named : (rule : TieRule) → untied rule xs i w ≡ true → uniqueMaxIndexWith xs rule ≡ i

@@ -23,17 +23,17 @@ use Rattle.base_builder.specs.declared.builder.ConsensusBaseBuilder.{ConsensusB
 use Rattle.lane_sums.specs.Observation.{movedBy, valueOf, countOf}
 use Rattle.base_builder.specs.Builder.{total, cleared, newAt, withTieRule, resetOf, sumOf, observed, entryOf, isFull, addedBy, added, fullCount}
 use Rattle.base_builder.specs.History.{Event, add, reset, setTieRule, step, run, after}
-use Rattle.base_builder_laws.specs.Counted.{Observation, countedSince, valuesOf, kahan, timesOf}
+use Rattle.base_builder_laws.specs.Counted.{CountedObservation, countedSince, valuesOf, kahan, timesCounted}
 
 -- the builder holds what these observations leave
-pub record Holds (t : AdjustedProbabilityTables) (os : List Observation) (b : ConsensusBaseBuilder) : Type 0 where
+pub record Holds (t : AdjustedProbabilityTables) (os : List CountedObservation) (b : ConsensusBaseBuilder) : Type 0 where
   pub sums : (i : ℕ) → i < 4 → sumOf b i ≡ kahan (valuesOf t i os)
-  pub counts : (i : ℕ) → i < 4 → counted (b .observations) i ≡ timesOf i os
-  pub all : timesOf 0 os + timesOf 1 os + timesOf 2 os + timesOf 3 os ≡ length os
+  pub counts : (i : ℕ) → i < 4 → counted (b .observations) i ≡ timesCounted i os
+  pub all : timesCounted 0 os + timesCounted 1 os + timesCounted 2 os + timesCounted 3 os ≡ length os
   pub most : length os ≤ fullCount
 
 cleared-holds : (t : AdjustedProbabilityTables) (rule : TieRule) (pre : LogProbability) → Holds t [] (cleared rule pre)
-unfolding cleared valuesOf kahan timesOf
+unfolding cleared valuesOf kahan timesCounted
 cleared-holds t rule pre = record {
   sums = λ (i : ℕ) (h : i < 4). rw (getD-replicate 4 i plusZero nan h);
   counts = λ (i : ℕ) (h : i < 4). getD-replicate 4 i 0 0 h;
@@ -42,12 +42,12 @@ cleared-holds t rule pre = record {
 }
 
 -- a lane is not observed more often than all are
-times-most : (i : ℕ) (os : List Observation) → timesOf i os ≤ length os
-unfolding timesOf
+times-most : (i : ℕ) (os : List CountedObservation) → timesCounted i os ≤ length os
+unfolding timesCounted
 times-most i [] = omega arith
 times-most i (o ∷ os) =
     let m = times-most i os in
-    choice (λ (n : ℕ). n ≤ length (o ∷ os)) (eqb i (o .at)) (timesOf i os + 1) (timesOf i os) (λ _. omega arith) (λ _. omega arith)
+    choice (λ (n : ℕ). n ≤ length (o ∷ os)) (eqb i (o .at)) (timesCounted i os + 1) (timesCounted i os) (λ _. omega arith) (λ _. omega arith)
 
 -- one more is counted in 32 bits as it is
 one-more : (c : Bool) (n : ℕ) → n < fullCount → (if c then (n + 1) % 2 ^ 32 else n) ≡ (if c then n + 1 else n)
@@ -55,17 +55,17 @@ one-more true n h = omega arith
 one-more false n h = refl
 
 -- the four together are one more
-one-in-all : (k q : ℕ) (os : List Observation) → k < 4
-    → timesOf 0 os + timesOf 1 os + timesOf 2 os + timesOf 3 os ≡ length os
-    → let o : Observation = record { at = k; quality = q } in timesOf 0 (o ∷ os) + timesOf 1 (o ∷ os) + timesOf 2 (o ∷ os) + timesOf 3 (o ∷ os) ≡ length (o ∷ os)
-unfolding timesOf
+one-in-all : (k q : ℕ) (os : List CountedObservation) → k < 4
+    → timesCounted 0 os + timesCounted 1 os + timesCounted 2 os + timesCounted 3 os ≡ length os
+    → let o : CountedObservation = record { at = k; quality = q } in timesCounted 0 (o ∷ os) + timesCounted 1 (o ∷ os) + timesCounted 2 (o ∷ os) + timesCounted 3 (o ∷ os) ≡ length (o ∷ os)
+unfolding timesCounted
 one-in-all zero q os h e = omega arith
 one-in-all (suc zero) q os h e = omega arith
 one-in-all (suc (suc zero)) q os h e = omega arith
 one-in-all (suc (suc (suc zero))) q os h e = omega arith
 one-in-all (suc (suc (suc (suc k)))) q os h e = absurd (omega arith)
 
-module _ (t : AdjustedProbabilityTables) (os : List Observation) (b : ConsensusBaseBuilder) (had : Holds t os b) where
+module _ (t : AdjustedProbabilityTables) (os : List CountedObservation) (b : ConsensusBaseBuilder) (had : Holds t os b) where
   full-is : isFull b ≡ leb fullCount (length os)
   unfolding isFull total
   full-is =
@@ -75,7 +75,7 @@ module _ (t : AdjustedProbabilityTables) (os : List Observation) (b : ConsensusB
 
   observed-holds : (k q : ℕ) → k < 4 → length os < fullCount
       → Holds t (record { at = k; quality = q } ∷ os) (observed (getD (t .correct) (entryOf q) nan) (getD (t .«error_per_alt») (entryOf q) nan) k b)
-  unfolding observed valuesOf kahan timesOf countOf
+  unfolding observed valuesOf kahan timesCounted countOf
   observed-holds k q h f =
       let c = getD (t .correct) (entryOf q) nan in
       let e = getD (t .«error_per_alt») (entryOf q) nan in
@@ -85,7 +85,7 @@ module _ (t : AdjustedProbabilityTables) (os : List Observation) (b : ConsensusB
         counts = λ (i : ℕ) (l : i < 4).
             let m = times-most i os in
             lanes-at (λ j. countOf (counted (b .observations) j) k j) 0 i l
-            ∙ rw (had .counts i l) (one-more (eqb i k) (timesOf i os) (omega arith));
+            ∙ rw (had .counts i l) (one-more (eqb i k) (timesCounted i os) (omega arith));
         all = one-in-all k q os h (had .all);
         most = omega arith;
       }
@@ -96,12 +96,12 @@ neither true b h = absurd (true≢false h)
 neither false b h = (refl, h)
 
 -- both go the same way
-together : (t : AdjustedProbabilityTables) (c : Bool) (os os' : List Observation) (b b' : ConsensusBaseBuilder) → Holds t os b → (c ≡ false → Holds t os' b') → Holds t (if c then os else os') (if c then b else b')
+together : (t : AdjustedProbabilityTables) (c : Bool) (os os' : List CountedObservation) (b b' : ConsensusBaseBuilder) → Holds t os b → (c ≡ false → Holds t os' b') → Holds t (if c then os else os') (if c then b else b')
 together t true os os' b b' h f = h
 together t false os os' b b' h f = f refl
 
 module _ (t : AdjustedProbabilityTables) where
-  added-holds : (base q : ℕ) (os : List Observation) (b : ConsensusBaseBuilder) → Holds t os b
+  added-holds : (base q : ℕ) (os : List CountedObservation) (b : ConsensusBaseBuilder) → Holds t os b
       → Holds t
       (if eqb (laneOfByte base) noLane || leb fullCount (length os) then os else record { at = laneOfByte base; quality = q } ∷ os)
       (added (t .correct) (t .«error_per_alt») base q b)
@@ -113,7 +113,7 @@ module _ (t : AdjustedProbabilityTables) where
       let n = neither (eqb (laneOfByte base) noLane) (leb fullCount (length os)) e in
       observed-holds t os b had (laneOfByte base) q (in-lane base (n .0)) (leb-false fullCount (length os) (n .1))))
 
-  run-holds : (es : List Event) (os : List Observation) (b : ConsensusBaseBuilder) → Holds t os b → Holds t (countedSince os es) (run t es b)
+  run-holds : (es : List Event) (os : List CountedObservation) (b : ConsensusBaseBuilder) → Holds t os b → Holds t (countedSince os es) (run t es b)
   unfolding countedSince run step resetOf withTieRule
   run-holds [] os b had = had
   run-holds (add base q ∷ es) os b had = run-holds es _ (added (t .correct) (t .«error_per_alt») base q b) (added-holds base q os b had)

@@ -23,7 +23,7 @@ use Rattle.lane_calls.specs.declared.call.Reply.the-variants.{Replied, Deferred
 use Rattle.unanimous_shortcut.specs.Unanimous.{firstSeen, soleLane, leads}
 use Rattle.base_builder.specs.declared.builder.ConsensusBaseBuilder.{ConsensusBaseBuilder}
 use Rattle.base_builder.specs.Calls.{unanimousOf, multibaseOf, callFullOf}
-use Rattle.base_builder_laws.specs.Counted.{Observation}
+use Rattle.base_builder_laws.specs.Counted.{CountedObservation}
 use Rattle.base_builder_laws.specs.Agrees.{Agrees}
 use Rattle.base_builder.specs.History.{ruled}
 use Rattle.base_builder_laws.proofs.Run.{Holds}
@@ -47,7 +47,7 @@ sole-others ns =
     go true i f h = f refl
     go false i f h = clash refl h
 
-module _ (t : AdjustedProbabilityTables) (os : List Observation) (b : ConsensusBaseBuilder) (had : Holds t os b) where
+module _ (t : AdjustedProbabilityTables) (os : List CountedObservation) (b : ConsensusBaseBuilder) (had : Holds t os b) where
   abbrev i : ℕ
   i = soleLane (b .observations)
 

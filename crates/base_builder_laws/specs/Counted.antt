@@ -15,12 +15,12 @@ use Rattle.base_builder.specs.Builder.{entryOf, fullCount}
 use Rattle.base_builder.specs.History.{Event, add, reset, setTieRule}
 
 -- an observation that was counted: its lane and its quality
-pub record Observation : Type 0 where
+pub record CountedObservation : Type 0 where
   pub at : ℕ
   pub quality : ℕ
 
 -- the observations counted since the last reset, the latest first, where those of os were counted before
-unfoldable pub countedSince : List Observation → List Event → List Observation
+unfoldable pub countedSince : List CountedObservation → List Event → List CountedObservation
 countedSince os [] = os
 countedSince os (add base q ∷ es) =
     countedSince
@@ -31,7 +31,7 @@ countedSince os (reset ∷ es) = countedSince [] es
 countedSince os (setTieRule rule ∷ es) = countedSince os es
 
 -- the values of lane i: the table's one entry where the base was its own, the other where it was another
-unfoldable pub valuesOf : AdjustedProbabilityTables → ℕ → List Observation → List Float
+unfoldable pub valuesOf : AdjustedProbabilityTables → ℕ → List CountedObservation → List Float
 valuesOf t i [] = []
 valuesOf t i (o ∷ os) =
     let q = entryOf (o .quality) in
@@ -43,8 +43,8 @@ kahan [] = record { lane = plusZero; compensation = plusZero }
 kahan (v ∷ vs) = movedBy v (kahan vs)
 
 -- how many of them are of lane i
-unfoldable pub timesOf : ℕ → List Observation → ℕ
-timesOf i [] = 0
-timesOf i (o ∷ os) =
-    if eqb i (o .at) then timesOf i os + 1
-    else timesOf i os
+unfoldable pub timesCounted : ℕ → List CountedObservation → ℕ
+timesCounted i [] = 0
+timesCounted i (o ∷ os) =
+    if eqb i (o .at) then timesCounted i os + 1
+    else timesCounted i os

@@ -10,14 +10,14 @@ use Rattle.base_builder.specs.declared.builder.ConsensusBaseBuilder.{ConsensusB
 use Rattle.base_builder.specs.Calls.{unanimousOf, multibaseOf, callFullOf, callOf}
 
 -- A, C, G or T
-abbrev pub isBase : ℕ → Bool
-isBase x = eqb x 65 || (eqb x 67 || (eqb x 71 || eqb x 84))
+abbrev pub isCalledBase : ℕ → Bool
+isCalledBase x = eqb x 65 || (eqb x 67 || (eqb x 71 || eqb x 84))
 
 -- A, C, G or T with a quality of 2 to 93, or N with exactly 2
 unfoldable pub isCall : Call → Bool
 isCall c =
     let q = c .qual .0 in
-    isBase (c .base) && (leb 2 q && leb q 93) || eqb (c .base) 78 && eqb q 2
+    isCalledBase (c .base) && (leb 2 q && leb q 93) || eqb (c .base) 78 && eqb q 2
 
 -- a shortcut that replies gives such a call
 abbrev pub repliesWell : Reply → Bool

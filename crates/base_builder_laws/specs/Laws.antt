@@ -10,13 +10,13 @@ use Rattle.base_builder.specs.declared.builder.ConsensusBaseBuilder.{ConsensusB
 use Rattle.base_builder.specs.Builder.{total, sumOf, contributionsOf, fullCount}
 use Rattle.base_builder.specs.Calls.{callOf}
 use Rattle.base_builder.specs.History.{Event, reset, run, after, ruled}
-use Rattle.base_builder_laws.specs.Counted.{countedSince, valuesOf, kahan, timesOf}
+use Rattle.base_builder_laws.specs.Counted.{countedSince, valuesOf, kahan, timesCounted}
 
 pub record Laws (pre post : ℕ) (rule : TieRule) (es : List Event) : Type 0 where
   -- what a lane holds depends on its own values alone
   pub own-values : (i : ℕ) → i < 4 → sumOf (after pre post rule es) i ≡ kahan (valuesOf (adjustedTables post) i (countedSince [] es))
   -- its count is the number of observations of its base that were counted since the last reset
-  pub count : (i : ℕ) → i < 4 → counted (after pre post rule es .observations) i ≡ timesOf i (countedSince [] es)
+  pub count : (i : ℕ) → i < 4 → counted (after pre post rule es .observations) i ≡ timesCounted i (countedSince [] es)
   -- all counts together are never more than 4,294,967,295, so that none of them wraps
   pub most : total (after pre post rule es .observations) ≤ fullCount
   -- the base of the call is that of the rule's lane, N where there is none

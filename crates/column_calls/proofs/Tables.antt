@@ -10,7 +10,7 @@ use Rattle.observation_windows.specs.Windows.{windowsOf}
 use Rattle.observation_windows.proofs.Laws.{added-same}
 use Rattle.column_file.specs.declared.settings.Settings.{Settings}
 use Rattle.column_file.specs.Format.{Observation}
-use Rattle.column_calls.specs.Columns.{eventOf, startOf, builderOf, columnCall, calledColumn}
+use Rattle.column_calls.specs.Columns.{eventOf, startOf, builderOfColumn, columnCall, calledColumn}
 use Rattle.column_calls.specs.Tables.{builderWith, columnCallWith}
 
 -- by the windows of any two tables, observations do what they do as a list of a builder's calls
@@ -24,5 +24,5 @@ windows-run t b (o ∷ c) = rw (added-same (t .correct) (t .«error_per_alt») (
 pub calls-with : (g : Settings)
     → let t = adjustedTables (g .«error_rate_post_umi» .0) in
     columnCallWith (windowsOf (t .correct) (t .«error_per_alt»)) (startOf g) (gapTables (g .«error_rate_pre_umi» .0)) ≡ calledColumn g
-unfolding columnCallWith calledColumn columnCall builderOf after
+unfolding columnCallWith calledColumn columnCall builderOfColumn after
 calls-with g = fun-ext (λ c. rw (windows-run (adjustedTables (g .«error_rate_post_umi» .0)) (startOf g) c))

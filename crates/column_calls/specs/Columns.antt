@@ -21,16 +21,16 @@ abbrev pub startOf : Settings → ConsensusBaseBuilder
 startOf g = withTieRule (g .«tie_rule») (newAt (g .«error_rate_pre_umi» .0))
 
 -- the builder of a column: a new one, after its observations in their order
-unfoldable pub builderOf : Settings → List Observation → ConsensusBaseBuilder
-builderOf g c = after (g .«error_rate_pre_umi» .0) (g .«error_rate_post_umi» .0) (g .«tie_rule») (map eventOf c)
+unfoldable pub builderOfColumn : Settings → List Observation → ConsensusBaseBuilder
+builderOfColumn g c = after (g .«error_rate_pre_umi» .0) (g .«error_rate_post_umi» .0) (g .«tie_rule») (map eventOf c)
 
 -- its call
 unfoldable pub columnCall : Settings → List Observation → Call
-columnCall g c = callOf (gapTables (g .«error_rate_pre_umi» .0)) (builderOf g c)
+columnCall g c = callOf (gapTables (g .«error_rate_pre_umi» .0)) (builderOfColumn g c)
 
 -- its call, and the counts of A, C, G and T
 unfoldable pub calledColumn : Settings → List Observation → ColumnCall
-calledColumn g c = record { call = columnCall g c; counts = builderOf g c .observations }
+calledColumn g c = record { call = columnCall g c; counts = builderOfColumn g c .observations }
 
 -- its depth: how many observations the file has of it, also those that are ignored (SCOPE 6.1)
 abbrev pub depthOf : List Observation → ℕ

@@ -16,7 +16,7 @@ use Rattle.refusals.specs.Result.{Result, refused, accepted, andThen}
 use Rattle.string_set.specs.Readers.{Taken, taken, short, many, alone, longestFile}
 use Rattle.string_set.specs.StringSet.{stringSet, readSet}
 use Rattle.string_set.specs.declared.Reading.the-variants as set
-use Rattle.string_set.specs.Places.{readingOf}
+use Rattle.string_set.specs.Places.{setReadingOf}
 use Rattle.string_set.proofs.Readers.{word-at, word-end, lone-fits, alone-next}
 use Rattle.column_file.specs.declared.columns.Walked.the-variants as walk
 use Rattle.column_file.specs.declared.file.Extent.the-variants as extent
@@ -161,10 +161,10 @@ module _ (s : List ℕ) (first n : ℕ) (at : (first ≡ firstIn s) × (n ≡ an
         rw (next, e, a, w .count, ← w .end, ← w .verdict)
 
 -- what a string set's answer says
-pub set-refused : (q : Result (List (List ℕ))) (r : Refusal) → readingOf q ≡ set.Refused r → q ≡ refused r
+pub set-refused : (q : Result (List (List ℕ))) (r : Refusal) → setReadingOf q ≡ set.Refused r → q ≡ refused r
 set-refused (refused x) r e = cc
 set-refused (accepted l) r e = cc
 
-pub set-read : (q : Result (List (List ℕ))) (k : ℕ) → readingOf q ≡ set.Strings k → (l : List (List ℕ)) × (q ≡ accepted l)
+pub set-read : (q : Result (List (List ℕ))) (k : ℕ) → setReadingOf q ≡ set.Strings k → (l : List (List ℕ)) × (q ≡ accepted l)
 set-read (refused r) k e = absurd (let z : _≡_ {A = ℕ} 0 1 = cc in omega arith)
 set-read (accepted l) k e = (l, refl)

@@ -15,7 +15,7 @@ use Rattle.words.specs.Choice.{if_then_else_}
 use Rattle.string_set.specs.Readers.{alone, longestFile}
 use Rattle.column_file.specs.Format.{Observation, Sections, sections}
 use Rattle.column_file.specs.Reading.{settingsOf, observationVerdict, columnVerdict, columnsVerdict, fileOf, readFile}
-use Rattle.column_file_laws.specs.Conditions.{isSettings, isAbsent, Conditions}
+use Rattle.column_file_laws.specs.Conditions.{isSettings, isAbsent, FileConditions}
 
 -- 4 by a test
 abbrev absentIf : Bool → Verdict
@@ -65,7 +65,7 @@ two : (s : List ℕ) → length s ≤ longestFile → alone (sections s) ≡ ref
 unfolding readFile
 two s h e = rw (le-ltb longestFile (length s) h, e)
 
-pub conditions : (s : List ℕ) → Conditions s
+pub conditions : (s : List ℕ) → FileConditions s
 conditions s =
     record {
       too-long = one s;

@@ -21,7 +21,7 @@ isSettings bs = eqb (length bs) 3 && leb (byteAt bs 2) 1
 abbrev pub isAbsent : Observation → Bool
 isAbsent o = eqb (o .quality) 255
 
-pub record Conditions (s : List ℕ) : Type 0 where
+pub record FileConditions (s : List ℕ) : Type 0 where
   -- 1: a file over 65,536 bytes
   pub too-long : longestFile < length s → numberIn (readFile s) ≡ 1
   -- 2: else, where its bytes are no three sections up to the last

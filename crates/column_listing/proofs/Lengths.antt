@@ -18,7 +18,7 @@ use Rattle.lent_text.proofs.Decimal.{decimal-length}
 use Rattle.tie_rules.specs.Lanes.{counted}
 use Rattle.lane_calls.specs.declared.call.Call.{Call}
 use Rattle.base_builder.specs.Builder.{total}
-use Rattle.base_builder_laws.specs.GoodCalls.{isBase, isCall}
+use Rattle.base_builder_laws.specs.GoodCalls.{isCalledBase, isCall}
 use Rattle.base_builder_laws.proofs.GoodCalls.{good-calls}
 use Rattle.base_builder.specs.History.{after}
 use Rattle.base_builder_laws.proofs.Laws.{laws}
@@ -28,7 +28,7 @@ use Rattle.column_file.specs.declared.settings.Settings.{Settings}
 use Rattle.column_file.specs.Format.{Observation}
 use Rattle.column_file.specs.Reading.{File, readFile}
 use Rattle.column_file.specs.Places.{columnsSize}
-use Rattle.column_calls.specs.Columns.{eventOf, builderOf, columnCall}
+use Rattle.column_calls.specs.Columns.{eventOf, builderOfColumn, columnCall}
 use Rattle.column_file.proofs.Readings.{FileAt}
 use Rattle.listing_lines.specs.Lines.{lineOf, columnLine, columnLines, umiLine, textOf, refusalLine}
 use Rattle.column_listing.specs.Listing.{linesOf}
@@ -58,20 +58,20 @@ call-quality : (c : Call) → isCall c ≡ true → c .qual .0 < 100
 unfolding isCall
 call-quality c h =
     let q = c .qual .0 in
-    test (isBase (c .base) && (leb 2 q && leb q 93))
-    (λ e. omega (arith, leb-true q 93 (both (leb 2 q) (leb q 93) (both (isBase (c .base)) (leb 2 q && leb q 93) e .1) .1)))
+    test (isCalledBase (c .base) && (leb 2 q && leb q 93))
+    (λ e. omega (arith, leb-true q 93 (both (leb 2 q) (leb q 93) (both (isCalledBase (c .base)) (leb 2 q && leb q 93) e .1) .1)))
     (λ e. omega (arith, eqb-true q 2 (both (eqb (c .base) 78) (eqb q 2) (rw e at h) .1)))
 
 module _ (g : Settings) where
   -- of a column's line
   pub column-length : (i : ℕ) (c : List Observation) → i < 100000 → length c < 100000 → length (columnLine i g c) ≤ 70
-  unfolding columnLine columnCall builderOf
+  unfolding columnLine columnCall builderOfColumn
   column-length i c h k =
       let pre = g .«error_rate_pre_umi» .0 in
       let post = g .«error_rate_post_umi» .0 in
       let es = map eventOf c in
       let b = after pre post (g .«tie_rule») es in
-      line-length i (columnCall g c) (length c) (builderOf g c .observations) h (call-quality (columnCall g c) (is-true _ (good-calls pre b .call))) k
+      line-length i (columnCall g c) (length c) (builderOfColumn g c .observations) h (call-quality (columnCall g c) (is-true _ (good-calls pre b .call))) k
       (laws pre post (g .«tie_rule») es .most)
 
   -- of all of them, which take at most 65,536 bytes

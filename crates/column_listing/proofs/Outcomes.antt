@@ -37,8 +37,8 @@ use Rattle.column_listing.specs.declared.listing.Listing.{Listing}
 use Rattle.column_listing.specs.declared.listing.Listing.the-variants as listing
 use Rattle.column_listing.specs.declared.listing.Outcome.{Outcome}
 use Rattle.column_listing.specs.declared.listing.Outcome.the-variants as outcome
-use Rattle.column_listing.specs.Listing.{listed, printed, listingOf}
-use Rattle.column_listing.specs.Answers.{roomFor, listedIn, listingAnswer, listingNumber, listingBuffer, outcomeOf}
+use Rattle.column_listing.specs.Listing.{listedFile, printed, listingOf}
+use Rattle.column_listing.specs.Answers.{roomForText, listedIn, listingAnswer, listingNumber, listingBuffer, outcomeOf}
 use Rattle.column_listing.specs.Places.{placesText}
 use Rattle.column_listing.proofs.Texts.{text-is}
 
@@ -84,8 +84,8 @@ module _ (t out : List ℕ) where
   unfolding written
   written-front h = rw (le-leb (length t) (length out) h) (take-append-seam t (drop (length t) out))
 
-  room-buffer : listingBuffer out (roomFor out t) ≡ written t out
-  unfolding roomFor
+  room-buffer : listingBuffer out (roomForText out t) ≡ written t out
+  unfolding roomForText
   room-buffer = test (ltb (length out) (length t)) (λ e. rw e (short-written t out (ltb-true (length out) (length t) e))) (λ e. rw e)
 
 -- the front of a buffer that a text was printed into
@@ -97,26 +97,26 @@ printed-front {o} {o1} {t} {w} p h =
 -- ---- a file
 
 module _ (s : List ℕ) where
-  pub listed-refused : (r : Refusal) → judgeFile s ≡ refused r → listed s ≡ refused r
-  unfolding listed
+  pub listed-refused : (r : Refusal) → judgeFile s ≡ refused r → listedFile s ≡ refused r
+  unfolding listedFile
   listed-refused r e = rw e
 
   pub listed-accepted : (p : Places) (n : ℕ) (flag : Bool) (a : AcceptedAs (judgeFile s) p n flag)
-      → listed s ≡ accepted (placesText p s (a .judged .found .text) (a .judged .found .hadErrors))
-  unfolding listed
+      → listedFile s ≡ accepted (placesText p s (a .judged .found .text) (a .judged .found .hadErrors))
+  unfolding listedFile
   listed-accepted p n flag a = rw (a .is, text-is s p (judged-at s p n flag a) (a .judged .found))
 
 -- ---- the replies
 
 module _ (s out : List ℕ) where
   -- what is refused leaves the buffer as it was
-  pub refused-reply : (r : Refusal) → listed s ≡ refused r → (outcome.Refused r ≡ outcomeOf out (listed s)) × (out ≡ listingBuffer out (listedIn s out))
+  pub refused-reply : (r : Refusal) → listedFile s ≡ refused r → (outcome.Refused r ≡ outcomeOf out (listedFile s)) × (out ≡ listingBuffer out (listedIn s out))
   unfolding listedIn
   refused-reply r e = (rw e, rw e)
 
   -- and a text is written where it fits, which is u in other words
-  pub accepted-reply : (t u : List ℕ) (o : Outcome) (l : List ℕ) → listed s ≡ accepted t → u ≡ t → o ≡ outcomeOf out (accepted u) → l ≡ written u out
-      → (o ≡ outcomeOf out (listed s)) × (l ≡ listingBuffer out (listedIn s out))
+  pub accepted-reply : (t u : List ℕ) (o : Outcome) (l : List ℕ) → listedFile s ≡ accepted t → u ≡ t → o ≡ outcomeOf out (accepted u) → l ≡ written u out
+      → (o ≡ outcomeOf out (listedFile s)) × (l ≡ listingBuffer out (listedIn s out))
   unfolding listedIn
   accepted-reply t u o l e f k h = (rw (e, ← f) k, rw (e, ← f) (h ∙ sym (room-buffer u out)))
 
@@ -126,8 +126,8 @@ replyOf (outcome.Refused r) = listing.Refused r
 replyOf outcome.TooShort = listing.Refused BufferTooShort
 replyOf (outcome.Written n) = listing.Given n
 
-reply-is : (out : List ℕ) (t : Result (List ℕ)) → replyOf (outcomeOf out t) ≡ listingAnswer (andThen t (roomFor out))
-unfolding roomFor
+reply-is : (out : List ℕ) (t : Result (List ℕ)) → replyOf (outcomeOf out t) ≡ listingAnswer (andThen t (roomForText out))
+unfolding roomForText
 reply-is out (refused r) = refl
 reply-is out (accepted t) =
     test (leb (length t) (length out))
@@ -141,8 +141,8 @@ number-is (accepted t) = refl
 -- what an outcome says of what is printed
 abbrev Ended : List ℕ → Result (List ℕ) → Outcome → Type 0
 Ended out t (outcome.Refused r) = t ≡ refused r
-Ended out t outcome.TooShort = (0 ≡ lengthWritten (printed t) out) × (listingBuffer out (andThen t (roomFor out)) ≡ written (printed t) out)
-Ended out t (outcome.Written n) = (n ≡ lengthWritten (printed t) out) × (listingBuffer out (andThen t (roomFor out)) ≡ written (printed t) out)
+Ended out t outcome.TooShort = (0 ≡ lengthWritten (printed t) out) × (listingBuffer out (andThen t (roomForText out)) ≡ written (printed t) out)
+Ended out t (outcome.Written n) = (n ≡ lengthWritten (printed t) out) × (listingBuffer out (andThen t (roomForText out)) ≡ written (printed t) out)
 
 by-outcome : (out : List ℕ) (t : Result (List ℕ)) → Ended out t (outcomeOf out t)
 unfolding lengthWritten
@@ -152,12 +152,12 @@ by-outcome out (accepted t) =
     (λ e. (rw e, room-buffer t out)) (λ e. (rw e, room-buffer t out))
 
 -- by the outcome of the file, and what it left in the buffer
-module _ (s out mid : List ℕ) (o : Outcome) (e : o ≡ outcomeOf out (listed s)) (k : mid ≡ listingBuffer out (listedIn s out)) where
+module _ (s out mid : List ℕ) (o : Outcome) (e : o ≡ outcomeOf out (listedFile s)) (k : mid ≡ listingBuffer out (listedIn s out)) where
   pub list-reply : (r : Listing) → replyOf o ≡ r
       → (r ≡ listingAnswer (listedIn s out)) × ((mid ≡ listingBuffer out (listedIn s out)) × (listingNumber r ≡ numberIn (listedIn s out)))
   unfolding listedIn
   list-reply r h =
-      let answer : r ≡ listingAnswer (listedIn s out) = sym h ∙ ap replyOf e ∙ reply-is out (listed s) in
+      let answer : r ≡ listingAnswer (listedIn s out) = sym h ∙ ap replyOf e ∙ reply-is out (listedFile s) in
       (answer, (k, ap listingNumber answer ∙ number-is (listedIn s out)))
 
   -- the line of a refused file goes into a buffer that is still as it was
@@ -165,20 +165,20 @@ module _ (s out mid : List ℕ) (o : Outcome) (e : o ≡ outcomeOf out (listed s
       → (n ≡ lengthWritten (listingOf s) out) × (l ≡ written (listingOf s) out)
   unfolding listedIn listingOf
   print-refused r n l h i j =
-      let z : listed s ≡ refused r = subst (Ended out (listed s)) (sym e ∙ h) (by-outcome out (listed s)) in
-      let same : mid ≡ out = k ∙ ap (λ (t : Result (List ℕ)). listingBuffer out (andThen t (roomFor out))) z in
+      let z : listedFile s ≡ refused r = subst (Ended out (listedFile s)) (sym e ∙ h) (by-outcome out (listedFile s)) in
+      let same : mid ≡ out = k ∙ ap (λ (t : Result (List ℕ)). listingBuffer out (andThen t (roomForText out))) z in
       (i ∙ rw (z, same), j ∙ rw (z, same))
 
   pub print-short : o ≡ outcome.TooShort → (0 ≡ lengthWritten (listingOf s) out) × (mid ≡ written (listingOf s) out)
   unfolding listedIn listingOf
   print-short h =
-      let z : Ended out (listed s) outcome.TooShort = subst (Ended out (listed s)) (sym e ∙ h) (by-outcome out (listed s)) in
+      let z : Ended out (listedFile s) outcome.TooShort = subst (Ended out (listedFile s)) (sym e ∙ h) (by-outcome out (listedFile s)) in
       (z .0, k ∙ z .1)
 
   pub print-written : (n : ℕ) → o ≡ outcome.Written n → (n ≡ lengthWritten (listingOf s) out) × (mid ≡ written (listingOf s) out)
   unfolding listedIn listingOf
   print-written n h =
-      let z : Ended out (listed s) (outcome.Written n) = subst (Ended out (listed s)) (sym e ∙ h) (by-outcome out (listed s)) in
+      let z : Ended out (listedFile s) (outcome.Written n) = subst (Ended out (listedFile s)) (sym e ∙ h) (by-outcome out (listedFile s)) in
       (z .0, k ∙ z .1)
 
 -- a line put at the front of a buffer

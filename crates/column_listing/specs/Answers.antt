@@ -12,17 +12,17 @@ use Rattle.column_listing.specs.declared.listing.Listing.{Listing}
 use Rattle.column_listing.specs.declared.listing.Listing.the-variants as listing
 use Rattle.column_listing.specs.declared.listing.Outcome.{Outcome}
 use Rattle.column_listing.specs.declared.listing.Outcome.the-variants as outcome
-use Rattle.column_listing.specs.Listing.{listed}
+use Rattle.column_listing.specs.Listing.{listedFile}
 
 -- 10 comes last: the buffer is shorter than the text
-unfoldable pub roomFor : List ℕ → List ℕ → Result (List ℕ)
-roomFor out t =
+unfoldable pub roomForText : List ℕ → List ℕ → Result (List ℕ)
+roomForText out t =
     if ltb (length out) (length t) then refused BufferTooShort
     else accepted t
 
 -- of a file's bytes and a buffer
 unfoldable pub listedIn : List ℕ → List ℕ → Result (List ℕ)
-listedIn s out = andThen (listed s) (roomFor out)
+listedIn s out = andThen (listedFile s) (roomForText out)
 
 -- the reply: a refusal, or the text's length
 abbrev pub listingAnswer : Result (List ℕ) → Listing

@@ -12,8 +12,8 @@ unfoldable pub linesOf : File → Found → List (List ℕ)
 linesOf f u = header ∷ columnLines 1 (f .settings) (f .columns) ++ (umiLine (u .text) (u .hadErrors) ∷ [])
 
 -- the listing's text, or the number by which the file is refused
-unfoldable pub listed : List ℕ → Result (List ℕ)
-listed s = andThen (judgeFile s) (λ j. accepted (textOf (linesOf (j .file) (j .found))))
+unfoldable pub listedFile : List ℕ → Result (List ℕ)
+listedFile s = andThen (judgeFile s) (λ j. accepted (textOf (linesOf (j .file) (j .found))))
 
 -- what is printed of it: a refused file's number alone
 abbrev pub printed : Result (List ℕ) → List ℕ
@@ -22,4 +22,4 @@ printed (accepted t) = t
 
 -- what the program prints for a file
 unfoldable pub listingOf : List ℕ → List ℕ
-listingOf s = printed (listed s)
+listingOf s = printed (listedFile s)

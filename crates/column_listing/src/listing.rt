@@ -10,7 +10,7 @@ ghost use Rattle.string_set.specs.Readers.{longestFile};
 ghost use Rattle.unanimous_shortcut.specs.Unanimous.{tablesOf};
 ghost use Rattle.column_file.specs.Places.{columnsAt};
 ghost use Rattle.column_calls.specs.Tables.{columnCallWith};
-ghost use Rattle.column_listing.specs.Listing.{listed, listingOf};
+ghost use Rattle.column_listing.specs.Listing.{listedFile, listingOf};
 ghost use Rattle.column_listing.specs.Answers.{listedIn, listingAnswer, listingNumber, listingBuffer, outcomeOf};
 ghost use Rattle.column_listing.specs.Places.{placesText};
 ghost use Rattle.listing_lines.specs.Lines.{refusalLine};
@@ -129,7 +129,7 @@ fn write_text(file: &[u8], places: Places, text: &[u8], had_errors: bool, out: &
 }
 
 fn write(file: &[u8], out: &mut [u8]) -> Outcome
-    ensures reply { λ r. ⌜ r ≡ outcomeOf (now (out .entry)) (listed (now (file .entry))) ⌝ }
+    ensures reply { λ r. ⌜ r ≡ outcomeOf (now (out .entry)) (listedFile (now (file .entry))) ⌝ }
     ensures lent { λ _. ⌜ now (out .exit) ≡ listingBuffer (now (out .entry)) (listedIn (now (file .entry)) (now (out .entry))) ⌝ }
 {
     let judged = judge(file);

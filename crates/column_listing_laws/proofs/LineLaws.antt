@@ -17,13 +17,13 @@ use Rattle.lent_text.specs.Text.{letters, newline, space, decimal, isDigit, lin
 use Rattle.lent_text.proofs.Decimal.{decimal-digits}
 use Rattle.tie_rules.specs.Lanes.{counted}
 use Rattle.lane_calls.specs.declared.call.Call.{Call}
-use Rattle.base_builder_laws.specs.GoodCalls.{isBase, isCall}
+use Rattle.base_builder_laws.specs.GoodCalls.{isCalledBase, isCall}
 use Rattle.base_builder_laws.proofs.GoodCalls.{good-calls}
 use Rattle.umi_groups.specs.Found.{Found}
 use Rattle.column_file.specs.declared.settings.Settings.{Settings}
 use Rattle.column_file.specs.Format.{Observation}
 use Rattle.column_file.specs.Reading.{File}
-use Rattle.column_calls.specs.Columns.{builderOf, columnCall}
+use Rattle.column_calls.specs.Columns.{builderOfColumn, columnCall}
 use Rattle.listing_lines.specs.Lines.{header, lineOf, columnLine, columnLines, flag, umiLine}
 use Rattle.column_listing.specs.Listing.{linesOf}
 use Rattle.column_listing_laws.specs.Laws.{isNewline, isLine, lineAt, OneLineEach}
@@ -52,15 +52,15 @@ decimal-plain : (n : ℕ) → any isNewline (decimal n) ≡ false
 decimal-plain n = none-by-every isDigit isNewline digit-other (decimal n) (decimal-digits n)
 
 -- nor is the base of a call
-base-other : (x : ℕ) → isBase x ≡ true → isNewline x ≡ false
-base-other x h = refuted (isNewline x) (λ e. clash (ap isBase (eqb-true x newline e)) h)
+base-other : (x : ℕ) → isCalledBase x ≡ true → isNewline x ≡ false
+base-other x h = refuted (isNewline x) (λ e. clash (ap isCalledBase (eqb-true x newline e)) h)
 
 call-plain : (c : Call) → isCall c ≡ true → any isNewline (c .base ∷ []) ≡ false
 unfolding isCall
 call-plain c h =
     let q = c .qual .0 in
-    test (isBase (c .base) && (leb 2 q && leb q 93))
-    (λ e. rw (base-other (c .base) (both (isBase (c .base)) (leb 2 q && leb q 93) e .0)))
+    test (isCalledBase (c .base) && (leb 2 q && leb q 93))
+    (λ e. rw (base-other (c .base) (both (isCalledBase (c .base)) (leb 2 q && leb q 93) e .0)))
     (λ e. rw (eqb-true (c .base) 78 (both (eqb (c .base) 78) (eqb q 2) (rw e at h) .0)))
 
 -- ---- the lines of a file
@@ -87,7 +87,7 @@ line-of i call depth counts h =
 column-line : (i : ℕ) (g : Settings) (c : List Observation) → isLine (columnLine i g c) ≡ true
 unfolding columnLine columnCall
 column-line i g c =
-    line-of i (columnCall g c) (length c) (builderOf g c .observations) (is-true _ (good-calls (g .«error_rate_pre_umi» .0) (builderOf g c) .call))
+    line-of i (columnCall g c) (length c) (builderOfColumn g c .observations) (is-true _ (good-calls (g .«error_rate_pre_umi» .0) (builderOfColumn g c) .call))
 
 -- as many as there are columns, each of them one
 lines-count : (i : ℕ) (g : Settings) (cs : List (List Observation)) → length (columnLines i g cs) ≡ length cs

@@ -1,4 +1,4 @@
--- No listing is empty, and `longest` bytes hold it, that of a file and of any list of numbers. Assumes nothing.
+-- No listing is empty, and `longestListing` bytes hold it, that of a file and of any list of numbers. Assumes nothing.
 use mathlib.Core.Path.{_≡_, refl, sym, _∙_, ap, subst}
 use mathlib.Core.List.{List, [], _∷_}
 use Prim.Native.Nat.{ℕ, zero, suc, _+_, _≤_, _<_}
@@ -24,9 +24,9 @@ use Rattle.column_file.proofs.Files.{two-each, columns-inside, file-size, strin
 use Rattle.judged_file.specs.Judged.{Judged, judgeFile}
 use Rattle.judged_file.proofs.Judged.{judged-parts}
 use Rattle.listing_lines.specs.Lines.{textOf, refusalLine}
-use Rattle.column_listing.specs.Listing.{linesOf, listed, printed, listingOf}
+use Rattle.column_listing.specs.Listing.{linesOf, listedFile, printed, listingOf}
 use Rattle.column_listing.proofs.Lengths.{text-length, refusal-length}
-use Rattle.column_listing_laws.specs.Laws.{longest, Fits}
+use Rattle.column_listing_laws.specs.Laws.{longestListing, ListingFits}
 
 -- ---- the first string of a set is no longer than the set
 
@@ -95,7 +95,7 @@ answer-length c strings Sound u e =
 
 -- some bytes, and few enough
 abbrev Short : List ℕ → Type 0
-Short t = (0 < length t) × (length t ≤ longest)
+Short t = (0 < length t) × (length t ≤ longestListing)
 
 by-refusal : (r : Refusal) → Short (refusalLine r)
 unfolding refusalLine
@@ -125,8 +125,8 @@ module _ (s : List ℕ) where
       let parts = judged-parts s j e in
       (omega arith, omega (arith, text-length s f u (parts .0), consensus-length f u (parts .0) (parts .1), two-each (f .columns)))
 
-pub fits : (s : List ℕ) → Fits s
-unfolding listingOf listed
+pub fits : (s : List ℕ) → ListingFits s
+unfolding listingOf listedFile
 fits s =
     let h = by-judged s (judgeFile s) refl in
     record { some = h .0; most = h .1 }

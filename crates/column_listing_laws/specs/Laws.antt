@@ -38,11 +38,11 @@ pub record OneLineEach (f : File) (u : Found) : Type 0 where
   pub last-line : any isNewline (u .text) ≡ false → isLine (lineAt f u (length (f .columns) + 1)) ≡ true
 
 -- this number of bytes holds every listing
-abbrev pub longest : ℕ
-longest = 2400000
+abbrev pub longestListing : ℕ
+longestListing = 2400000
 
 -- of any list of numbers, a file or not
-pub record Fits (s : List ℕ) : Type 0 where
+pub record ListingFits (s : List ℕ) : Type 0 where
   -- a refused file has its line too
   pub some : 0 < length (listingOf s)
-  pub most : length (listingOf s) ≤ longest
+  pub most : length (listingOf s) ≤ longestListing

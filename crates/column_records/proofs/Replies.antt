@@ -30,7 +30,7 @@ use Rattle.judged_file.specs.Judged.{judgeFile}
 use Rattle.judged_file.proofs.Judged.{AcceptedAs, judged-at}
 use Rattle.column_listing.specs.declared.listing.Listing.{Listing}
 use Rattle.column_listing.specs.declared.listing.Listing.the-variants as listing
-use Rattle.column_listing.specs.Answers.{roomFor, listingAnswer, listingBuffer, listingNumber}
+use Rattle.column_listing.specs.Answers.{roomForText, listingAnswer, listingBuffer, listingNumber}
 use Rattle.column_records.specs.Records.{recordsWith, recordsOf, recordsIn}
 
 -- with the windows and tables of the settings' rates and a new builder, what is called is what the settings say
@@ -48,13 +48,13 @@ Replied out t r o = (r ≡ listingAnswer t) × (o ≡ listingBuffer out t)
 
 module _ (t out : List ℕ) where
   -- too little
-  pub no-room : length out < length t → Replied out (roomFor out t) (listing.Refused BufferTooShort) out
-  unfolding roomFor
+  pub no-room : length out < length t → Replied out (roomForText out t) (listing.Refused BufferTooShort) out
+  unfolding roomForText
   no-room h = (rw (lt-ltb (length out) (length t) h), rw (lt-ltb (length out) (length t) h))
 
   -- enough
-  pub all-put : length t ≤ length out → (w : ℕ) (o : List ℕ) → Printed out 0 t o w → Replied out (roomFor out t) (listing.Given w) o
-  unfolding roomFor
+  pub all-put : length t ≤ length out → (w : ℕ) (o : List ℕ) → Printed out 0 t o w → Replied out (roomForText out t) (listing.Given w) o
+  unfolding roomForText
   all-put h w o p =
       let q = printed-written p h in
       (rw (le-ltb (length out) (length t) h, q .0), rw (le-ltb (length out) (length t) h) (q .1))
@@ -84,7 +84,7 @@ module _ (s : List ℕ) where
         let settings : p .settings ≡ a .judged .file .settings = ap (λ (q : Places). q .settings) (a .places) in
         rw (a .is, columns, settings)
 
-pub accepted-reply : (s out t : List ℕ) (r : Listing) (o : List ℕ) → recordsOf s ≡ accepted t → Replied out (roomFor out t) r o → Replied out (recordsIn s out) r o
+pub accepted-reply : (s out t : List ℕ) (r : Listing) (o : List ℕ) → recordsOf s ≡ accepted t → Replied out (roomForText out t) r o → Replied out (recordsIn s out) r o
 unfolding recordsIn
 accepted-reply s out t r o e h = rw e h
 

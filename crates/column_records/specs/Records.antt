@@ -10,7 +10,7 @@ use Rattle.column_file.specs.Format.{Observation}
 use Rattle.judged_file.specs.Judged.{judgeFile}
 use Rattle.column_calls.specs.declared.columns.ColumnCall.{ColumnCall}
 use Rattle.column_calls.specs.Columns.{calledColumn, depthOf}
-use Rattle.column_listing.specs.Answers.{roomFor}
+use Rattle.column_listing.specs.Answers.{roomForText}
 
 -- a record of 28 bytes: base, quality, two zeros, depth, four counts, and how many of n observations were not counted
 unfoldable pub recordOf : ColumnCall → ℕ → ℕ → List ℕ
@@ -31,4 +31,4 @@ recordsOf s = andThen (judgeFile s) (λ j. accepted (recordsWith (calledColumn (
 
 -- with a buffer: 10 comes last
 unfoldable pub recordsIn : List ℕ → List ℕ → Result (List ℕ)
-recordsIn s out = andThen (recordsOf s) (roomFor out)
+recordsIn s out = andThen (recordsOf s) (roomForText out)

@@ -10,7 +10,7 @@ ghost use Rattle.lent_text.specs.Printed.{Printed};
 ghost use Rattle.column_file.specs.Places.{columnsAt};
 ghost use Rattle.column_calls.specs.Columns.{calledColumn};
 ghost use Rattle.column_calls.specs.Tables.{columnCallWith};
-ghost use Rattle.column_listing.specs.Answers.{roomFor, listingAnswer, listingBuffer, listingNumber};
+ghost use Rattle.column_listing.specs.Answers.{roomForText, listingAnswer, listingBuffer, listingNumber};
 ghost use Rattle.column_records.specs.Records.{recordOf, recordsWith, recordsIn};
 use base_builder::ConsensusBaseBuilder;
 use base_builder::total;
@@ -93,8 +93,8 @@ fn put_records(
 // The records, where they fit: how long they are is known before the first.
 fn write_records(file: &[u8], places: Places, out: &mut [u8]) -> Listing
     requires { ⌜ (places .count < longestFile) × (length (columnsAt (now file) (places .columns) (places .count)) ≡ places .count) ⌝ }
-    ensures reply { λ r. ⌜ r ≡ listingAnswer (roomFor (now (out .entry)) (recordsWith (calledColumn (places .settings)) (columnsAt (now (file .entry)) (places .columns) (places .count)))) ⌝ }
-    ensures lent { λ _. ⌜ now (out .exit) ≡ listingBuffer (now (out .entry)) (roomFor (now (out .entry)) (recordsWith (calledColumn (places .settings)) (columnsAt (now (file .entry)) (places .columns) (places .count)))) ⌝ }
+    ensures reply { λ r. ⌜ r ≡ listingAnswer (roomForText (now (out .entry)) (recordsWith (calledColumn (places .settings)) (columnsAt (now (file .entry)) (places .columns) (places .count)))) ⌝ }
+    ensures lent { λ _. ⌜ now (out .exit) ≡ listingBuffer (now (out .entry)) (roomForText (now (out .entry)) (recordsWith (calledColumn (places .settings)) (columnsAt (now (file .entry)) (places .columns) (places .count)))) ⌝ }
 {
     let count = places.count;
     if out.len() < 28 * count {

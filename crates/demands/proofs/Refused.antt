@@ -15,8 +15,8 @@ use Rattle.simple_consensus.specs.Consensus.{defaultCaller, found}
 use Rattle.column_file.specs.Reading.{File, readFile}
 use Rattle.judged_file.specs.Judged.{judgeFile}
 use Rattle.listing_lines.specs.Lines.{textOf}
-use Rattle.column_listing.specs.Listing.{linesOf, listed, printed, listingOf}
-use Rattle.column_listing.specs.Answers.{roomFor, listedIn}
+use Rattle.column_listing.specs.Listing.{linesOf, listedFile, printed, listingOf}
+use Rattle.column_listing.specs.Answers.{roomForText, listedIn}
 use Rattle.demands.specs.Refused.{SetConditions, InTurn, ListingConditions, Unchanged}
 
 pub set-conditions : (set : List ℕ) → SetConditions set
@@ -42,24 +42,24 @@ in-turn judge text set out room short enough = record {
 -- ---- a listing
 
 module _ (s : List ℕ) where
-  listed-refused : (r : Refusal) → readFile s ≡ refused r → listed s ≡ refused r
-  unfolding listed judgeFile
+  listed-refused : (r : Refusal) → readFile s ≡ refused r → listedFile s ≡ refused r
+  unfolding listedFile judgeFile
   listed-refused r e = rw e
 
-  strings-refused : (f : File) (r : Refusal) → readFile s ≡ accepted f → consensusVerdict (f .strings) ≡ Refused r → listed s ≡ refused r
-  unfolding listed judgeFile
+  strings-refused : (f : File) (r : Refusal) → readFile s ≡ accepted f → consensusVerdict (f .strings) ≡ Refused r → listedFile s ≡ refused r
+  unfolding listedFile judgeFile
   strings-refused f r e v = rw (e, v)
 
   listed-text : (f : File) → readFile s ≡ accepted f → consensusVerdict (f .strings) ≡ Sound
-      → listed s ≡ accepted (textOf (linesOf f (found defaultCaller (f .strings))))
-  unfolding listed judgeFile
+      → listedFile s ≡ accepted (textOf (linesOf f (found defaultCaller (f .strings))))
+  unfolding listedFile judgeFile
   listed-text f e v = rw (e, v)
 
 -- a text and the room for it
 room-last : (out : List ℕ) (q : Result (List ℕ)) (t : List ℕ) → q ≡ accepted t
-    → (length out < length (printed q) → andThen q (roomFor out) ≡ refused BufferTooShort)
-    × (length (printed q) ≤ length out → andThen q (roomFor out) ≡ accepted (printed q))
-unfolding roomFor
+    → (length out < length (printed q) → andThen q (roomForText out) ≡ refused BufferTooShort)
+    × (length (printed q) ≤ length out → andThen q (roomForText out) ≡ accepted (printed q))
+unfolding roomForText
 room-last out q t e = rw e ((λ h. rw (lt-ltb (length out) (length t) h)), (λ h. rw (le-ltb (length out) (length t) h)))
 
 pub listing-conditions : (s out : List ℕ) → ListingConditions s out
@@ -67,8 +67,8 @@ unfolding listedIn listingOf
 listing-conditions s out = record {
   by-file = λ r e. rw (listed-refused s r e);
   by-strings = λ f r e v. rw (strings-refused s f r e v);
-  by-room = λ f e v h. room-last out (listed s) _ (listed-text s f e v) .0 h;
-  accepted-else = λ f e v h. room-last out (listed s) _ (listed-text s f e v) .1 h;
+  by-room = λ f e v h. room-last out (listedFile s) _ (listed-text s f e v) .0 h;
+  accepted-else = λ f e v h. room-last out (listedFile s) _ (listed-text s f e v) .1 h;
 }
 
 -- ---- what a refusal leaves

@@ -11,8 +11,8 @@ use Rattle.simple_consensus.specs.Consensus.{defaultCaller, callConsensusOf, co
 use Rattle.simple_umi.specs.Duplex.{FoundDuplex, duplexOf}
 use Rattle.simple_consensus.specs.Answers.{callConsensusIn, consensusUmisIn}
 use Rattle.simple_umi.specs.Answers.{consensusIn, duplexIn}
-use Rattle.simple_umi_laws.specs.Laws.{Conditions as StringConditions}
-use Rattle.column_file_laws.specs.Conditions.{Conditions as FileConditions}
+use Rattle.simple_umi_laws.specs.Laws.{StringConditions}
+use Rattle.column_file_laws.specs.Conditions.{FileConditions}
 use Rattle.demands.specs.Refused.{SetConditions, InTurn, ListingConditions, Unchanged}
 
 -- the string of an answer, of one set and of two strands

@@ -6,7 +6,7 @@ use Rattle.float.specs.Ops.{_⊘_, bits, plusZero, one}
 use Rattle.words.proofs.Cases.{and-false}
 use Rattle.float.proofs.Order.{nan-not-lt, lt-asym, lt-trans, lt-not-eq, lt-not-le}
 use Rattle.elementary.specs.Ln.{lnOf}
-use Rattle.elementary.specs.LnOnePlus.{numberOf, lnOnePlusOf}
+use Rattle.elementary.specs.LnOnePlus.{lnOnePlusOfNumber, lnOnePlusOf}
 
 zero-by-zero : plusZero ⊘ plusZero ≡ nan
 unfolding div ofBits
@@ -35,8 +35,8 @@ above-minus-one : lt (neg one) (bits 0xbfd2_bec4_0000_0000) ≡ true
 unfolding lt neg ofBits
 above-minus-one = refl
 
-number-below : (x : Float) → lt x (neg one) ≡ true → numberOf x ≡ nan
-unfolding numberOf
+number-below : (x : Float) → lt x (neg one) ≡ true → lnOnePlusOfNumber x ≡ nan
+unfolding lnOnePlusOfNumber
 number-below x h =
     rw (lt-asym x _ (lt-trans x (neg one) (bits 0xbfd2_bec4_0000_0000) h above-minus-one), lt-asym x (neg one) h, lt-not-eq x (neg one) h .0) zero-by-zero
 

@@ -7,8 +7,8 @@ use lib.Ieee.{Float, nan, lt, le, ne, isNan, div, ofBits}
 use Rattle.float.specs.Ops.{bits, plusZero, plusInfinity}
 use Rattle.words.proofs.Cases.{test, choice, both}
 use Rattle.float.proofs.Order.{ne-self, nan-alone, nan-not-lt, le-numbers, le-not-lt}
-use Rattle.elementary.specs.Exp.{from0Of, lowest, farOf, stepsOf, powerAt, rowAt, inside, termOf, raisedOf, nearOf, expOf}
-use Rattle.elementary.specs.LnOnePlus.{numberOf, lnOnePlusOf}
+use Rattle.elementary.specs.Exp.{from0Of, lowestExponent, farOf, stepsOf, powerAt, rowAt, inside, termOf, raisedOf, nearOf, expOf}
+use Rattle.elementary.specs.LnOnePlus.{lnOnePlusOfNumber, lnOnePlusOf}
 
 -- 0 or more, and so no NaN
 abbrev From0 : Float → Type 0
@@ -27,7 +27,7 @@ unfolding from0Of
 from-0 y = choice From0 (le plusZero y) y plusZero (λ t. t) (λ t. zero-from-0)
 
 far-from-0 : (x : Float) (head : ℕ) (t : Float) (k : ℕ) → From0 (farOf x head t k)
-far-from-0 x head t k = choice From0 (lt x lowest) plusZero _ (λ l. zero-from-0) (λ l. from-0 _)
+far-from-0 x head t k = choice From0 (lt x lowestExponent) plusZero _ (λ l. zero-from-0) (λ l. from-0 _)
 
 near-from-0 : (x : Float) → From0 (nearOf x)
 unfolding nearOf
@@ -69,4 +69,4 @@ exp-nan x =
 pub ln-one-plus-not-below : (x : Float) → le plusZero x ≡ true → lt (lnOnePlusOf x) plusZero ≡ false
 unfolding lnOnePlusOf
 ln-one-plus-not-below x h =
-    test (lt (numberOf x) plusZero) (λ t. rw (h, t) (le-not-lt plusZero plusZero zero-from-0)) (λ t. rw (h, t) t)
+    test (lt (lnOnePlusOfNumber x) plusZero) (λ t. rw (h, t) (le-not-lt plusZero plusZero zero-from-0)) (λ t. rw (h, t) t)

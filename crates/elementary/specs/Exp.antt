@@ -41,13 +41,13 @@ from0Of y =
     else plusZero
 
 -- -746: below it the result is less than half of the least f64
-abbrev pub lowest : Float
-lowest = bits 0xc087_5000_0000_0000
+abbrev pub lowestExponent : Float
+lowestExponent = bits 0xc087_5000_0000_0000
 
 -- exp x as h·(1 + t)·2^(k - 1100), for the h of the pattern head
 abbrev pub farOf : Float → ℕ → Float → ℕ → Float
 farOf x head t k =
-    if lt x lowest then plusZero
+    if lt x lowestExponent then plusZero
     else from0Of (scaledOf (fmaSmallProductOf (bits head) t (bits head)) k)
 
 -- (128·k + j) + shift: the factor is 128/ln 2

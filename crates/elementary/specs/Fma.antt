@@ -4,8 +4,8 @@ use Rattle.float.specs.Ops.{_⊕_, _⊖_, _⊗_, bits}
 use Rattle.words.specs.Choice.{if_then_else_}
 
 -- the leading 26 digits of x (Veltkamp): the factor is 2^27 + 1
-unfoldable pub headOf : Float → Float
-headOf x = let t = bits 0x41a0_0000_0200_0000 ⊗ x in t ⊖ (t ⊖ x)
+unfoldable pub leadingDigits : Float → Float
+leadingDigits x = let t = bits 0x41a0_0000_0200_0000 ⊗ x in t ⊖ (t ⊖ x)
 
 -- what a product lost when it was rounded to p, for the factors ah + al and bh + bl (Dekker): all but the last of these operations are exact
 unfoldable pub lostOf : Float → Float → Float → Float → Float → Float
@@ -14,8 +14,8 @@ lostOf p ah al bh bl = ah ⊗ bh ⊖ p ⊕ ah ⊗ bl ⊕ al ⊗ bh ⊕ al ⊗ bl
 -- what a·b loses when it is rounded
 unfoldable pub productErrorOf : Float → Float → Float
 productErrorOf a b =
-    let ah = headOf a in
-    let bh = headOf b in
+    let ah = leadingDigits a in
+    let bh = leadingDigits b in
     lostOf (a ⊗ b) ah (a ⊖ ah) bh (b ⊖ bh)
 
 -- a·b + c, where c is no smaller than the product, or a multiple of its last digit. s is the sum and d what it lost, exactly (Dekker); where even a

@@ -49,8 +49,8 @@ abbrev pub restOf : Series → Float → Float
 restOf a low = a .s ⊗ (a .half ⊕ (a .top ⊕ (a .middle ⊕ low)))
 
 -- k·ln 2 + ln(1 + f) + c with that low, ln 2 in two parts so that its product with the first is exact; without c where k is 0
-abbrev pub sumOf : Parts → Series → Float → Float
-sumOf t a low =
+abbrev pub lnOnePlusSum : Parts → Series → Float → Float
+lnOnePlusSum t a low =
     if eq (t .k) plusZero then t .f ⊖ (a .half ⊖ restOf a low)
     else t .k ⊗ bits 0x3fe6_2e42_fee0_0000 ⊖ (a .half ⊖ (restOf a low ⊕ (t .k ⊗ bits 0x3dea_39ef_3579_3c76 ⊕ t .c)) ⊖ t .f)
 
@@ -59,14 +59,14 @@ sumOf t a low =
 unfoldable pub joinedOf : Parts → Float
 joinedOf t =
     let a = expansionOf (t .f) in
-    let y = sumOf t a (a .z ⊗ bits 0x3fe5_5555_5555_5592 ⊕ a .low) in
-    if eq y (sumOf t a (a .z ⊗ bits 0x3fe5_5555_5555_5594 ⊕ a .low)) then y
-    else sumOf t a (fmaLargeProductOf (a .z) (bits 0x3fe5_5555_5555_5593) (a .low))
+    let y = lnOnePlusSum t a (a .z ⊗ bits 0x3fe5_5555_5555_5592 ⊕ a .low) in
+    if eq y (lnOnePlusSum t a (a .z ⊗ bits 0x3fe5_5555_5555_5594 ⊕ a .low)) then y
+    else lnOnePlusSum t a (fmaLargeProductOf (a .z) (bits 0x3fe5_5555_5555_5593) (a .low))
 
 -- ln(1 + x) before the last test. Between the first limits, about √½ - 1 and √2 - 1, 1 + x is taken as it is, but up to 2^-29 either way x - x²/2; from
 -- there to 1.75 k is 1; an infinity is its own logarithm
-unfoldable pub numberOf : Float → Float
-numberOf x =
+unfoldable pub lnOnePlusOfNumber : Float → Float
+lnOnePlusOfNumber x =
     let u = x ⊕ one in
     if lt (bits 0xbfd2_bec4_0000_0000) x then
     (if lt x (bits 0x3fda_827a_0000_0000) then
@@ -82,6 +82,6 @@ numberOf x =
 -- ln(1 + x). With this test no x from 0 on has a result below 0; no argument is known that needs it.
 unfoldable pub lnOnePlusOf : Float → Float
 lnOnePlusOf x =
-    let y = numberOf x in
+    let y = lnOnePlusOfNumber x in
     if le plusZero x && lt y plusZero then plusZero
     else y

@@ -1,7 +1,7 @@
 // a * b + c with one rounding, from operations that round each time. The processor's own fused
 // operation is not in the language; what it would give decides last digits in the four functions.
 ghost use mathlib.Core.Path.{_≡_};
-ghost use Rattle.elementary.specs.Fma.{headOf, lostOf, productErrorOf, fmaSmallProductOf, fmaLargeProductOf};
+ghost use Rattle.elementary.specs.Fma.{leadingDigits, lostOf, productErrorOf, fmaSmallProductOf, fmaLargeProductOf};
 
 // 2^27 + 1
 const SPLITTER: f64 = 134217729.0;
@@ -11,7 +11,7 @@ const WIDER: f64 = 1.0000001;
 
 // The leading 26 digits of x (Veltkamp).
 fn head(x: f64) -> f64
-    ensures { λ r. ⌜ r ≡ headOf x ⌝ }
+    ensures { λ r. ⌜ r ≡ leadingDigits x ⌝ }
 {
     let t = SPLITTER * x;
     t - (t - x)

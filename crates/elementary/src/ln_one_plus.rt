@@ -4,7 +4,7 @@ ghost use mathlib.Core.Path.{_≡_};
 ghost use mathlib.Core.Bool.{true, false};
 ghost use lib.Ieee.{le, eq, isNan};
 ghost use Rattle.float.specs.Ops.{plusZero};
-ghost use Rattle.elementary.specs.LnOnePlus.{reducedOf, expansionOf, restOf, joinedOf, numberOf, lnOnePlusOf};
+ghost use Rattle.elementary.specs.LnOnePlus.{reducedOf, expansionOf, restOf, joinedOf, lnOnePlusOfNumber, lnOnePlusOf};
 use crate::fma::fma_large_product;
 
 // Up to here either way x - x^2 / 2 is exact enough: 2^-29.
@@ -63,7 +63,7 @@ pub fn ln_1p(x: f64) -> f64
 // ln(1 + x) for an x from 0 on, before that test.
 fn from_zero(x: f64) -> f64
     requires { ⌜ le plusZero x ≡ true ⌝ }
-    ensures { λ r. ⌜ r ≡ numberOf x ⌝ }
+    ensures { λ r. ⌜ r ≡ lnOnePlusOfNumber x ⌝ }
 {
     if x < HIGH {
         if x < TINY {
@@ -84,7 +84,7 @@ fn from_zero(x: f64) -> f64
 // The same for an x below 0, and for NaN.
 fn below_zero(x: f64) -> f64
     requires { ⌜ le plusZero x ≡ false ⌝ }
-    ensures { λ r. ⌜ r ≡ numberOf x ⌝ }
+    ensures { λ r. ⌜ r ≡ lnOnePlusOfNumber x ⌝ }
 {
     if x > LOW {
         if x > -TINY {

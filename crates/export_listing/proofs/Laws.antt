@@ -15,8 +15,8 @@ use Rattle.judged_file.proofs.Judged.{judged-parts}
 use Rattle.column_calls.specs.Columns.{calledColumn}
 use Rattle.column_listing.specs.declared.listing.Listing.{Listing}
 use Rattle.column_listing.specs.declared.listing.Listing.the-variants as listing
-use Rattle.column_listing.specs.Listing.{listed, printed, listingOf}
-use Rattle.column_listing.specs.Answers.{roomFor, listedIn, listingAnswer}
+use Rattle.column_listing.specs.Listing.{listedFile, printed, listingOf}
+use Rattle.column_listing.specs.Answers.{roomForText, listedIn, listingAnswer}
 use Rattle.column_listing_laws.proofs.Longest.{fits}
 use Rattle.column_records.specs.Records.{recordsWith, recordsOf, recordsIn}
 use Rattle.column_records.proofs.RecordLaws.{records-length}
@@ -37,8 +37,8 @@ abbrev Few : Result (List ℕ) → Type 0
 Few (refused r) = Unit {0}
 Few (accepted t) = length t ≤ 2400000
 
-in-room : (out : List ℕ) (t : Result (List ℕ)) → Few t → Short (listingAnswer (andThen t (roomFor out)))
-unfolding roomFor
+in-room : (out : List ℕ) (t : Result (List ℕ)) → Few t → Short (listingAnswer (andThen t (roomForText out)))
+unfolding roomForText
 in-room out (refused r) h = tt
 in-room out (accepted t) h =
     choice (λ (u : Result (List ℕ)). Short (listingAnswer u)) (ltb (length out) (length t)) (refused BufferTooShort) (accepted t) (λ e. tt) (λ e. h)
@@ -50,7 +50,7 @@ printed-few (accepted t) h = h
 
 pub listing-short : (s out : List ℕ) (g : Listing) → g ≡ listingAnswer (listedIn s out) → Short g
 unfolding listedIn listingOf
-listing-short s out g e = subst Short (sym e) (in-room out (listed s) (printed-few (listed s) (fits s .most)))
+listing-short s out g e = subst Short (sym e) (in-room out (listedFile s) (printed-few (listedFile s) (fits s .most)))
 
 -- of records: 28 bytes for each column, which takes at least two of 65,536
 records-few : (s : List ℕ) (f : File) → readFile s ≡ accepted f → length (recordsWith (calledColumn (f .settings)) (f .columns)) ≤ 2400000

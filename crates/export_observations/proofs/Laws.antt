@@ -15,7 +15,7 @@ use Rattle.base_builder.specs.Builder.{contributionsOf, observationsForBase}
 use Rattle.lent_bytes.specs.Bytes.{joined, fourBytes}
 use Rattle.lent_bytes.proofs.Numbers.{fours-length}
 use Rattle.export_reports.specs.State.{builderOf}
-use Rattle.export_observations.specs.Observations.{observationCounts, observationBytes}
+use Rattle.export_observations.specs.Observations.{observationCounts, observationCountBytes}
 
 -- the three parts of the counts
 module _ (b : ConsensusBaseBuilder) where
@@ -49,10 +49,10 @@ module _ (s : List ℕ) where
   pub asked-length : length asked ≡ 1044
   asked-length = omega (arith, fours-length (observationCounts (builderOf 0 s)), counts-length 0 s)
 
-  pub eighty : length s ≡ 80 → observationBytes s ≡ asked
-  unfolding observationBytes
+  pub eighty : length s ≡ 80 → observationCountBytes s ≡ asked
+  unfolding observationCountBytes
   eighty e = rw (eq-eqb (length s) 80 e)
 
-  pub not-eighty : (length s ≡ 80 → ⊥) → observationBytes s ≡ []
-  unfolding observationBytes
+  pub not-eighty : (length s ≡ 80 → ⊥) → observationCountBytes s ≡ []
+  unfolding observationCountBytes
   not-eighty n = rw (ne-eqb (length s) 80 n)

@@ -15,7 +15,7 @@ unfoldable pub observationCounts : ConsensusBaseBuilder → List ℕ
 observationCounts b = contributionsOf b ∷ listed (observationsForBase b) 0 256 ++ b .observations
 
 -- those of a builder of 80 given bytes, at whatever rate, in four bytes each; nothing where the state has another length
-unfoldable pub observationBytes : List ℕ → List ℕ
-observationBytes state =
+unfoldable pub observationCountBytes : List ℕ → List ℕ
+observationCountBytes state =
     if eqb (length state) 80 then joined fourBytes (observationCounts (builderOf 0 state))
     else []

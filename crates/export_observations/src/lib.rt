@@ -6,7 +6,7 @@ ghost use lib.ListN.{length, getD};
 ghost use Rattle.lent_bytes.specs.Buffer.{lengthWritten, written};
 ghost use Rattle.lent_bytes.specs.Bytes.{joined, fourBytes};
 ghost use Rattle.lent_text.specs.Printed.{Printed};
-ghost use Rattle.export_observations.specs.Observations.{observationCounts, observationBytes};
+ghost use Rattle.export_observations.specs.Observations.{observationCounts, observationCountBytes};
 use base_builder::ConsensusBaseBuilder;
 use export_reports::builder_of;
 use lent_text::put_four;
@@ -44,8 +44,8 @@ fn put_counts(out: &mut [u8], builder: ConsensusBaseBuilder) -> usize
 // 1,044 bytes and as reply their number; or 0, and nothing written, where the state is not 80 bytes or
 // the buffer is too short.
 pub fn observations(state: &[u8], out: &mut [u8]) -> u64
-    ensures reply { λ r. ⌜ r ≡ lengthWritten (observationBytes (now (state .entry))) (now (out .entry)) ⌝ }
-    ensures lent { λ _. ⌜ now (out .exit) ≡ written (observationBytes (now (state .entry))) (now (out .entry)) ⌝ }
+    ensures reply { λ r. ⌜ r ≡ lengthWritten (observationCountBytes (now (state .entry))) (now (out .entry)) ⌝ }
+    ensures lent { λ _. ⌜ now (out .exit) ≡ written (observationCountBytes (now (state .entry))) (now (out .entry)) ⌝ }
 {
     if state.len() != 80 {
         return 0;

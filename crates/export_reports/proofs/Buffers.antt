@@ -11,7 +11,7 @@ use Rattle.gap_tables.specs.Gaps.{gapTables}
 use Rattle.base_builder.specs.declared.builder.ConsensusBaseBuilder.{ConsensusBaseBuilder}
 use Rattle.lent_bytes.specs.Buffer.{lengthWritten, written}
 use Rattle.export_scripts.specs.Script.{items, isScript}
-use Rattle.export_reports.specs.Runs.{reports, startOf, scriptBytes}
+use Rattle.export_reports.specs.Runs.{reports, scriptStart, scriptBytes}
 
 module _ (bs out : List ℕ) where
   pub fits-replied : length bs ≤ length out → length bs ≡ lengthWritten bs out
@@ -46,6 +46,6 @@ module _ (pre post rule : ℕ) (s : List ℕ) (b : ConsensusBaseBuilder) where
   unfolding scriptBytes
   bad-script h e = rw (le-leb rule 1 h, e)
 
-  pub good : rule ≤ 1 → isScript 3 s ≡ true → scriptBytes pre post rule s b ≡ reports (adjustedTables post) (gapTables pre) (items s) (startOf rule b)
+  pub good : rule ≤ 1 → isScript 3 s ≡ true → scriptBytes pre post rule s b ≡ reports (adjustedTables post) (gapTables pre) (items s) (scriptStart rule b)
   unfolding scriptBytes
   good h e = rw (le-leb rule 1 h, e)

@@ -26,13 +26,13 @@ reports t g [] p = []
 reports t g (i ∷ is) p = said g i p ++ reports t g is (passed t i p)
 
 -- a builder under the rule of a number, with nothing refused
-abbrev pub startOf : ℕ → ConsensusBaseBuilder → Progress
-startOf rule b = record { builder = withTieRule (ruleOf rule) b; refused = 0 }
+abbrev pub scriptStart : ℕ → ConsensusBaseBuilder → Progress
+scriptStart rule b = record { builder = withTieRule (ruleOf rule) b; refused = 0 }
 
 -- what a script writes for a builder, with the tables of two rates and under a rule; nothing where rule or script is bad
 unfoldable pub scriptBytes : ℕ → ℕ → ℕ → List ℕ → ConsensusBaseBuilder → List ℕ
 scriptBytes pre post rule script b =
-    if leb rule 1 && isScript 3 script then reports (adjustedTables post) (gapTables pre) (items script) (startOf rule b)
+    if leb rule 1 && isScript 3 script then reports (adjustedTables post) (gapTables pre) (items script) (scriptStart rule b)
     else []
 
 -- for a new builder

@@ -9,7 +9,7 @@ use Rattle.tie_rules.specs.Ties.{ruleOf}
 use Rattle.base_builder.specs.declared.builder.ConsensusBaseBuilder.{ConsensusBaseBuilder}
 use Rattle.base_builder.specs.declared.builder.Answer.{Answer}
 use Rattle.base_builder.specs.declared.builder.Answer.the-variants.{Accepted, Refused}
-use Rattle.base_builder.specs.Builder.{answerOf}
+use Rattle.base_builder.specs.Builder.{addAnswer}
 use Rattle.base_builder.specs.History.{Event, add, reset, setTieRule, step}
 use Rattle.export_scripts.specs.declared.script.Progress.{Progress}
 
@@ -54,7 +54,7 @@ questions (question kind ∷ is) = questions is + 1
 
 -- what an event is answered: only a base can be refused
 unfoldable pub answered : Event → ConsensusBaseBuilder → Answer
-answered (add base q) b = answerOf base b
+answered (add base q) b = addAnswer base b
 answered reset b = Accepted
 answered (setTieRule rule) b = Accepted
 

@@ -14,8 +14,8 @@ abbrev pub patternAt : List Float → ℕ → ℕ
 patternAt xs i = toBits binary64 (getD xs i nan)
 
 -- the numbers in turn: 94 bit patterns of each of the four tables, then the cap
-unfoldable pub numberAt : List Float → List Float → List Float → List Float → ℕ → ℕ → ℕ
-numberAt correct error thresholds cerr cap j =
+unfoldable pub tableNumber : List Float → List Float → List Float → List Float → ℕ → ℕ → ℕ
+tableNumber correct error thresholds cerr cap j =
     if ltb j 94 then patternAt correct j
     else if ltb j 188 then patternAt error (j - 94)
     else if ltb j 282 then patternAt thresholds (j - 188)
@@ -23,12 +23,12 @@ numberAt correct error thresholds cerr cap j =
     else cap
 
 -- byte i of a number, the low byte first
-unfoldable pub byteOf : ℕ → ℕ → ℕ
-byteOf n i = n / 256 ^ i % 256
+unfoldable pub tableByte : ℕ → ℕ → ℕ
+tableByte n i = n / 256 ^ i % 256
 
 -- byte k of these numbers
 abbrev pub numberByte : List Float → List Float → List Float → List Float → ℕ → ℕ → ℕ
-numberByte correct error thresholds cerr cap k = byteOf (numberAt correct error thresholds cerr cap (k / 8)) (k % 8)
+numberByte correct error thresholds cerr cap k = tableByte (tableNumber correct error thresholds cerr cap (k / 8)) (k % 8)
 
 -- byte k of the tables of a pair of rates
 abbrev pub tableByte : ℕ → ℕ → ℕ → ℕ

@@ -25,19 +25,19 @@ use Rattle.export_umi.specs.declared.asked.Asked.{Asked}
 use Rattle.export_umi.specs.declared.asked.Question.{Question}
 use Rattle.export_umi.specs.declared.asked.Question.the-variants.{CallConsensus, Consensus, ConsensusDuplex}
 use Rattle.export_umi.specs.Codes.{answerCode, flaggedCode, duplexCode}
-use Rattle.export_umi.specs.Asked.{foundBy, codeBy, textIn}
-use Rattle.export_umi.specs.Sent.{recordOf, sentReply, sentBuffer}
+use Rattle.export_umi.specs.Asked.{askedFound, codeBy, askedText}
+use Rattle.export_umi.specs.Sent.{sentRecord, sentReply, sentBuffer}
 
 -- ---- the length in an answer is that of the string found
-pub answer-length : (t : Result Found) → answerLength (answerOf t) ≡ length (textIn t)
+pub answer-length : (t : Result Found) → answerLength (answerOf t) ≡ length (askedText t)
 answer-length (refused r) = refl
 answer-length (accepted f) = refl
 
-pub flagged-length : (t : Result Found) → flaggedLength (flaggedOf t) ≡ length (textIn t)
+pub flagged-length : (t : Result Found) → flaggedLength (flaggedOf t) ≡ length (askedText t)
 flagged-length (refused r) = refl
 flagged-length (accepted f) = refl
 
-pub duplex-length : (t : Result FoundDuplex) → duplexLength (duplexAnswerOf t) ≡ length (textIn (pairFound t))
+pub duplex-length : (t : Result FoundDuplex) → duplexLength (duplexAnswerOf t) ≡ length (askedText (pairFound t))
 duplex-length (refused r) = refl
 duplex-length (accepted d) = refl
 
@@ -49,9 +49,9 @@ module _ {X R : Type 0} (say : R → X) where
       (h ∙ ap code (g ∙ ap (λ (y : SimpleConsensusCaller). say (f y)) e), l ∙ ap (λ (y : SimpleConsensusCaller). buffer (f y)) e)
 
   -- the code and the size of its answer, the caller and the buffer afterwards
-  module _ (found : R → Result Found) (code size : X → ℕ) (same : (t : R) → size (say t) ≡ length (textIn (found t))) where
+  module _ (found : R → Result Found) (code size : X → ℕ) (same : (t : R) → size (say t) ≡ length (askedText (found t))) where
     abbrev answered : SimpleConsensusCaller → R → Asked
-    answered c t = record { code = code (say t); length = length (textIn (found t)); caller = callerAfter c (found t) }
+    answered c t = record { code = code (say t); length = length (askedText (found t)); caller = callerAfter c (found t) }
 
     pub asked : (f : SimpleConsensusCaller → R) (x c : SimpleConsensusCaller) → x ≡ c → (k n : ℕ) (a : X) (after : SimpleConsensusCaller) (text lent : List ℕ)
         → k ≡ code a → n ≡ size a → a ≡ say (f x) → after ≡ callerAfter x (found (f x)) → lent ≡ bufferAfter text (found (f x)) → size a ≤ 255
@@ -100,7 +100,7 @@ by-duplex : (t : Result FoundDuplex) → ByCode (duplexCode (duplexAnswerOf t)) 
 by-duplex (refused r) = by-refusal r
 by-duplex (accepted d) = (λ h. omega arith, λ h. tt)
 
-pub by-code : (q : Question) (c : SimpleConsensusCaller) (set text : List ℕ) → ByCode (codeBy q c set text) (foundBy q c set text)
+pub by-code : (q : Question) (c : SimpleConsensusCaller) (set text : List ℕ) → ByCode (codeBy q c set text) (askedFound q c set text)
 by-code CallConsensus c set text = by-answer (callConsensusIn c set text)
 by-code Consensus c set text = by-flagged (consensusIn c set text)
 by-code ConsensusDuplex c set text = by-duplex (duplexIn c set text)
@@ -116,11 +116,11 @@ written-inside text out h = rw (le-leb (length text) (length out) h, length-appe
 
 -- of n bytes, where the buffer has room for n
 module _ (room : List ℕ) (n : ℕ) (after : List ℕ) where
-  pub text-inside : (t : Result Found) → n ≤ length room → n ≡ length (textIn t) → after ≡ bufferAfter room t → n ≤ length after
+  pub text-inside : (t : Result Found) → n ≤ length room → n ≡ length (askedText t) → after ≡ bufferAfter room t → n ≤ length after
   text-inside (refused r) h g a = rw a h
   text-inside (accepted f) h g a = rw (a, g) (written-inside (f .text) room (subst (λ (m : ℕ). m ≤ length room) g h))
 
-  pub text-front : (t : Result Found) → n ≤ length room → n ≡ length (textIn t) → after ≡ bufferAfter room t → take n after ≡ textIn t
+  pub text-front : (t : Result Found) → n ≤ length room → n ≡ length (askedText t) → after ≡ bufferAfter room t → take n after ≡ askedText t
   text-front (refused r) h g a = rw g
   text-front (accepted f) h g a = rw (g, a) (written-front (f .text) room (subst (λ (m : ℕ). m ≤ length room) g h))
 
@@ -131,14 +131,14 @@ module _ (code : ℕ) (out : List ℕ) where
   not-sent (accepted f) h = absurd h
 
   module _ (room : List ℕ) (c : SimpleConsensusCaller) (n : ℕ) (after : List ℕ) (caller : SimpleConsensusCaller) where
-    record-sent : (f : Found) → take n after ≡ f .text → caller ≡ withBuilder (f .builder) c → take n after ++ builderBytes (caller .builder) ≡ recordOf f
+    record-sent : (f : Found) → take n after ≡ f .text → caller ≡ withBuilder (f .builder) c → take n after ++ builderBytes (caller .builder) ≡ sentRecord f
     unfolding withBuilder
     record-sent f g b = rw (g, b)
 
     module _ (reply : ℕ) (lent : List ℕ)
         (r : reply ≡ (if leb (length (take n after ++ builderBytes (caller .builder))) (length out) then code else 10))
         (l : lent ≡ written (take n after ++ builderBytes (caller .builder)) out) where
-      pub sent : (t : Result Found) → Gives t → n ≤ length room → n ≡ length (textIn t) → after ≡ bufferAfter room t → caller ≡ callerAfter c t
+      pub sent : (t : Result Found) → Gives t → n ≤ length room → n ≡ length (askedText t) → after ≡ bufferAfter room t → caller ≡ callerAfter c t
           → (reply ≡ sentReply code t out) × (lent ≡ sentBuffer t out)
       sent (refused x) z h g a b = absurd z
       sent (accepted f) z h g a b =

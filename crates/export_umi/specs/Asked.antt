@@ -14,10 +14,10 @@ use Rattle.export_umi.specs.declared.asked.Question.the-variants.{CallCo
 use Rattle.export_umi.specs.Codes.{answerCode, flaggedCode, duplexCode}
 
 -- what is found of a set, with a buffer for the string
-abbrev pub foundBy : Question → SimpleConsensusCaller → List ℕ → List ℕ → Result Found
-foundBy CallConsensus c set text = callConsensusIn c set text
-foundBy Consensus c set text = consensusIn c set text
-foundBy ConsensusDuplex c set text = pairFound (duplexIn c set text)
+abbrev pub askedFound : Question → SimpleConsensusCaller → List ℕ → List ℕ → Result Found
+askedFound CallConsensus c set text = callConsensusIn c set text
+askedFound Consensus c set text = consensusIn c set text
+askedFound ConsensusDuplex c set text = pairFound (duplexIn c set text)
 
 -- the code of the answer
 abbrev pub codeBy : Question → SimpleConsensusCaller → List ℕ → List ℕ → ℕ
@@ -26,11 +26,11 @@ codeBy Consensus c set text = flaggedCode (flaggedOf (consensusIn c set text))
 codeBy ConsensusDuplex c set text = duplexCode (duplexAnswerOf (duplexIn c set text))
 
 -- the string, none where it is refused
-abbrev pub textIn : Result Found → List ℕ
-textIn (refused r) = []
-textIn (accepted f) = f .text
+abbrev pub askedText : Result Found → List ℕ
+askedText (refused r) = []
+askedText (accepted f) = f .text
 
 -- the code, how long the string is, and the caller afterwards
 abbrev pub askedOf : Question → SimpleConsensusCaller → List ℕ → List ℕ → Asked
 askedOf q c set text =
-    record { code = codeBy q c set text; length = length (textIn (foundBy q c set text)); caller = callerAfter c (foundBy q c set text) }
+    record { code = codeBy q c set text; length = length (askedText (askedFound q c set text)); caller = callerAfter c (askedFound q c set text) }

@@ -11,34 +11,34 @@ use Rattle.simple_consensus.specs.declared.caller.SimpleConsensusCaller.{Simple
 use Rattle.umi_groups.specs.Found.{Found}
 use Rattle.export_umi.specs.declared.asked.Question.{Question}
 use Rattle.export_umi.specs.declared.asked.Question.the-variants.{CallConsensus, Consensus, ConsensusDuplex}
-use Rattle.export_umi.specs.Asked.{foundBy, codeBy}
+use Rattle.export_umi.specs.Asked.{askedFound, codeBy}
 
 -- room for every string
-abbrev pub room : List ℕ
-room = replicate 255 0
+abbrev pub roomForString : List ℕ
+roomForString = replicate 255 0
 
 -- the string and the 80 bytes of the builder
-abbrev pub recordOf : Found → List ℕ
-recordOf f = f .text ++ builderBytes (f .builder)
+abbrev pub sentRecord : Found → List ℕ
+sentRecord f = f .text ++ builderBytes (f .builder)
 
 -- the code, or 10 where the buffer can't hold these
 abbrev pub sentReply : ℕ → Result Found → List ℕ → ℕ
 sentReply code (refused r) out = code
 sentReply code (accepted f) out =
-    if leb (length (recordOf f)) (length out) then code
+    if leb (length (sentRecord f)) (length out) then code
     else 10
 
 -- what the buffer holds afterwards
 abbrev pub sentBuffer : Result Found → List ℕ → List ℕ
 sentBuffer (refused r) out = out
-sentBuffer (accepted f) out = written (recordOf f) out
+sentBuffer (accepted f) out = written (sentRecord f) out
 
 -- of a function
 abbrev pub askedReply : Question → SimpleConsensusCaller → List ℕ → List ℕ → ℕ
-askedReply q c set out = sentReply (codeBy q c set room) (foundBy q c set room) out
+askedReply q c set out = sentReply (codeBy q c set roomForString) (askedFound q c set roomForString) out
 
 abbrev pub askedBuffer : Question → SimpleConsensusCaller → List ℕ → List ℕ → List ℕ
-askedBuffer q c set out = sentBuffer (foundBy q c set room) out
+askedBuffer q c set out = sentBuffer (askedFound q c set roomForString) out
 
 -- 0 call_consensus, 1 consensus, 3 consensus_duplex; 0 for another number
 unfoldable pub callerReply : ℕ → SimpleConsensusCaller → List ℕ → List ℕ → ℕ

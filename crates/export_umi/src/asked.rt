@@ -2,7 +2,7 @@
 ghost use mathlib.Core.Path.{_≡_};
 ghost use Prim.Native.Nat.{_≤_};
 ghost use Rattle.umi_groups.specs.Found.{bufferAfter};
-ghost use Rattle.export_umi.specs.Asked.{foundBy, askedOf};
+ghost use Rattle.export_umi.specs.Asked.{askedFound, askedOf};
 use crate::codes::answer_code;
 use crate::codes::answer_length;
 use crate::codes::duplex_code;
@@ -28,7 +28,7 @@ pub struct Asked {
 
 fn ask_call(caller: SimpleConsensusCaller, set: &[u8], text: &mut [u8]) -> Asked
     ensures asked { λ r. ⌜ r ≡ askedOf Question.CallConsensus caller (now (set .entry)) (now (text .entry)) ⌝ }
-    ensures lent { λ _. ⌜ now (text .exit) ≡ bufferAfter (now (text .entry)) (foundBy Question.CallConsensus caller (now (set .entry)) (now (text .entry))) ⌝ }
+    ensures lent { λ _. ⌜ now (text .exit) ≡ bufferAfter (now (text .entry)) (askedFound Question.CallConsensus caller (now (set .entry)) (now (text .entry))) ⌝ }
     ensures short { λ r. ⌜ r .length ≤ 255 ⌝ }
 {
     let consensus = caller.call_consensus(set, text);
@@ -43,7 +43,7 @@ fn ask_call(caller: SimpleConsensusCaller, set: &[u8], text: &mut [u8]) -> Asked
 
 fn ask_consensus(caller: SimpleConsensusCaller, set: &[u8], text: &mut [u8]) -> Asked
     ensures asked { λ r. ⌜ r ≡ askedOf Question.Consensus caller (now (set .entry)) (now (text .entry)) ⌝ }
-    ensures lent { λ _. ⌜ now (text .exit) ≡ bufferAfter (now (text .entry)) (foundBy Question.Consensus caller (now (set .entry)) (now (text .entry))) ⌝ }
+    ensures lent { λ _. ⌜ now (text .exit) ≡ bufferAfter (now (text .entry)) (askedFound Question.Consensus caller (now (set .entry)) (now (text .entry))) ⌝ }
     ensures short { λ r. ⌜ r .length ≤ 255 ⌝ }
 {
     let consensus = SimpleUmiConsensusCaller::new(caller).consensus(set, text);
@@ -59,7 +59,7 @@ fn ask_consensus(caller: SimpleConsensusCaller, set: &[u8], text: &mut [u8]) -> 
 
 fn ask_duplex(caller: SimpleConsensusCaller, set: &[u8], text: &mut [u8]) -> Asked
     ensures asked { λ r. ⌜ r ≡ askedOf Question.ConsensusDuplex caller (now (set .entry)) (now (text .entry)) ⌝ }
-    ensures lent { λ _. ⌜ now (text .exit) ≡ bufferAfter (now (text .entry)) (foundBy Question.ConsensusDuplex caller (now (set .entry)) (now (text .entry))) ⌝ }
+    ensures lent { λ _. ⌜ now (text .exit) ≡ bufferAfter (now (text .entry)) (askedFound Question.ConsensusDuplex caller (now (set .entry)) (now (text .entry))) ⌝ }
     ensures short { λ r. ⌜ r .length ≤ 255 ⌝ }
 {
     let consensus = SimpleUmiConsensusCaller::new(caller).consensus_duplex(set, text);
@@ -76,7 +76,7 @@ fn ask_duplex(caller: SimpleConsensusCaller, set: &[u8], text: &mut [u8]) -> Ask
 // The string goes into the buffer.
 pub fn ask(question: Question, caller: SimpleConsensusCaller, set: &[u8], text: &mut [u8]) -> Asked
     ensures asked { λ r. ⌜ r ≡ askedOf question caller (now (set .entry)) (now (text .entry)) ⌝ }
-    ensures lent { λ _. ⌜ now (text .exit) ≡ bufferAfter (now (text .entry)) (foundBy question caller (now (set .entry)) (now (text .entry))) ⌝ }
+    ensures lent { λ _. ⌜ now (text .exit) ≡ bufferAfter (now (text .entry)) (askedFound question caller (now (set .entry)) (now (text .entry))) ⌝ }
     ensures short { λ r. ⌜ r .length ≤ 255 ⌝ }
 {
     match question {

@@ -34,7 +34,7 @@ use Rattle.simple_umi.proofs.Strands.{strand-kept, strand-left}
 use Rattle.export_umi.specs.declared.asked.Question.{Question}
 use Rattle.export_umi.specs.declared.asked.Question.the-variants.{CallConsensus, Consensus, ConsensusDuplex}
 use Rattle.export_umi.specs.Codes.{answerCode, flaggedCode, duplexCode}
-use Rattle.export_umi.specs.Sent.{room, recordOf, sentReply, callerReply}
+use Rattle.export_umi.specs.Sent.{roomForString, sentRecord, sentReply, callerReply}
 use Rattle.export_umi_sets.specs.Codes.{SameReply, NeverTen, Codes}
 
 -- ---- the same reply
@@ -44,15 +44,15 @@ abbrev Short : Result Found → Type 0
 Short (refused r) = Unit {0}
 Short (accepted f) = length (f .text) ≤ 255
 
-room-short : (f : Found) → Short (roomFor room f)
+room-short : (f : Found) → Short (roomFor roomForString f)
 unfolding roomFor
 room-short f = choice Short (ltb 255 (length (f .text))) _ _ (λ e. tt) (λ e. ltb-false 255 (length (f .text)) e)
 
-in-short : (t : Result Found) → Short (andThen t (roomFor room))
+in-short : (t : Result Found) → Short (andThen t (roomFor roomForString))
 in-short (refused r) = tt
 in-short (accepted f) = room-short f
 
-pair-short : (t : Result FoundDuplex) → Short (pairFound (andThen t (λ d. andThen (roomFor room (d .found)) (λ f. accepted d))))
+pair-short : (t : Result FoundDuplex) → Short (pairFound (andThen t (λ d. andThen (roomFor roomForString (d .found)) (λ f. accepted d))))
 unfolding roomFor
 pair-short (refused r) = tt
 pair-short (accepted d) =
@@ -63,20 +63,20 @@ pair-short (accepted d) =
 same-code : (code : ℕ) (out : List ℕ) → 335 ≤ length out → (t : Result Found) → Short t → code ≡ sentReply code t out
 same-code code out h (refused r) s = refl
 same-code code out h (accepted f) s =
-    let size : length (recordOf f) ≤ length out = rw (length-append (f .text) (builderBytes (f .builder))) (omega (arith, builder-length (f .builder))) in
-    rw (le-leb (length (recordOf f)) (length out) size)
+    let size : length (sentRecord f) ≤ length out = rw (length-append (f .text) (builderBytes (f .builder))) (omega (arith, builder-length (f .builder))) in
+    rw (le-leb (length (sentRecord f)) (length out) size)
 
 same-call : SameReply 0 CallConsensus
 unfolding callerReply callConsensusIn
-same-call c set out h = same-code _ out h (callConsensusIn c set room) (in-short (andThen (readSet set) (callConsensusOf c)))
+same-call c set out h = same-code _ out h (callConsensusIn c set roomForString) (in-short (andThen (readSet set) (callConsensusOf c)))
 
 same-consensus : SameReply 1 Consensus
 unfolding callerReply consensusIn
-same-consensus c set out h = same-code _ out h (consensusIn c set room) (in-short (andThen (readSet set) (consensusOf c)))
+same-consensus c set out h = same-code _ out h (consensusIn c set roomForString) (in-short (andThen (readSet set) (consensusOf c)))
 
 same-duplex : SameReply 3 ConsensusDuplex
 unfolding callerReply duplexIn
-same-duplex c set out h = same-code _ out h (pairFound (duplexIn c set room)) (pair-short (andThen (readSet set) (duplexOf c)))
+same-duplex c set out h = same-code _ out h (pairFound (duplexIn c set roomForString)) (pair-short (andThen (readSet set) (duplexOf c)))
 
 -- ---- never 10: P holds of what is accepted, and nothing is refused by 10
 
@@ -191,8 +191,8 @@ found-fits c strings h =
     (λ e. rw (found-length c (length (firstOf strings)) strings) (first-fits strings h))
     (λ e. first-fits strings h)
 
-room-all : (f : Found) → Fits f → All Fits (roomFor room f)
-room-all f h = rw (room-enough room f h) h
+room-all : (f : Found) → Fits f → All Fits (roomFor roomForString f)
+room-all f h = rw (room-enough roomForString f h) h
 
 said-all : (c : SimpleConsensusCaller) (strings : List (List ℕ)) → Strings strings → All Fits (consensusOf c strings)
 said-all c strings h = judged-all Fits (consensusVerdict strings) (found c strings) (consensus-not strings) (found-fits c strings h)
@@ -233,19 +233,19 @@ duplex-not (accepted d) h = λ e. omega arith
 never-ten : (q : Question) → NeverTen q
 unfolding callConsensusIn consensusIn duplexIn
 never-ten CallConsensus c set h =
-    answer-not (callConsensusIn c set room)
-    (then-all Fits Fits (andThen (readSet set) (callConsensusOf c)) (roomFor room)
+    answer-not (callConsensusIn c set roomForString)
+    (then-all Fits Fits (andThen (readSet set) (callConsensusOf c)) (roomFor roomForString)
     (then-all Strings Fits (readSet set) (callConsensusOf c) (read-all set h)
     (λ l x. judged-all Fits (callVerdict l) (found c l) (call-not l) (found-fits c l x))) room-all)
 never-ten Consensus c set h =
-    flagged-not (consensusIn c set room)
-    (then-all Fits Fits (andThen (readSet set) (consensusOf c)) (roomFor room)
+    flagged-not (consensusIn c set roomForString)
+    (then-all Fits Fits (andThen (readSet set) (consensusOf c)) (roomFor roomForString)
     (then-all Strings Fits (readSet set) (consensusOf c) (read-all set h) (said-all c)) room-all)
 never-ten ConsensusDuplex c set h =
-    duplex-not (duplexIn c set room)
+    duplex-not (duplexIn c set roomForString)
     (then-all (λ d. Fits (d .found)) (λ d. Fits (d .found)) (andThen (readSet set) (duplexOf c)) _
     (then-all Strings (λ d. Fits (d .found)) (readSet set) (duplexOf c) (read-all set h) (duplex-all c))
-    (λ d x. then-all Fits (λ d. Fits (d .found)) (roomFor room (d .found)) _ (room-all (d .found) x) (λ f y. x)))
+    (λ d x. then-all Fits (λ d. Fits (d .found)) (roomFor roomForString (d .found)) _ (room-all (d .found) x) (λ f y. x)))
 
 pub codes : Codes
 codes = record { call = same-call; consensus = same-consensus; duplex = same-duplex; never-ten = never-ten }

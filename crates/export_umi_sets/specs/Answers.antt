@@ -11,17 +11,17 @@ use Rattle.simple_consensus.specs.Consensus.{callerAt}
 use Rattle.simple_consensus.specs.Answers.{callerAfter}
 use Rattle.export_umi.specs.declared.asked.Question.{Question}
 use Rattle.export_umi.specs.declared.asked.Question.the-variants.{CallConsensus, Consensus, ConsensusDuplex}
-use Rattle.export_umi.specs.Asked.{foundBy, codeBy, textIn}
-use Rattle.export_umi.specs.Sent.{room}
+use Rattle.export_umi.specs.Asked.{askedFound, codeBy, askedText}
+use Rattle.export_umi.specs.Sent.{roomForString}
 use Rattle.export_umi_sets.specs.Reading.{setsIn}
 
 -- the caller after a set: unchanged where the set is refused
 abbrev pub afterSet : Question → SimpleConsensusCaller → List ℕ → SimpleConsensusCaller
-afterSet q c set = callerAfter c (foundBy q c set room)
+afterSet q c set = callerAfter c (askedFound q c set roomForString)
 
 -- a set's answer: the code in 8 bytes, the string, none where it is refused, and the 80 bytes of the builder afterwards
 unfoldable pub setBytes : Question → SimpleConsensusCaller → List ℕ → List ℕ
-setBytes q c set = numberBytes 8 (codeBy q c set room) ++ (textIn (foundBy q c set room) ++ builderBytes (afterSet q c set .builder))
+setBytes q c set = numberBytes 8 (codeBy q c set roomForString) ++ (askedText (askedFound q c set roomForString) ++ builderBytes (afterSet q c set .builder))
 
 -- of sets in turn, each by the caller as the one before leaves it
 unfoldable pub setsBytes : Question → SimpleConsensusCaller → List (List ℕ) → List ℕ

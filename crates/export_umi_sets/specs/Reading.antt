@@ -2,12 +2,12 @@
 use Prim.Native.Nat.{ℕ, zero, suc}
 use mathlib.Core.List.{List, [], _∷_}
 use lib.ListN.{length}
-use Rattle.lent_bytes.specs.Bytes.{numberOf}
+use Rattle.lent_bytes.specs.Bytes.{numberOfBytes}
 use Rattle.string_set.specs.Readers.{Taken, taken, short, next, front}
 
 -- a length of four bytes, the low byte first
 unfoldable pub setSize : List ℕ → Taken ℕ
-setSize r = next (front 4 r) (λ bs s. taken (numberOf bs) s)
+setSize r = next (front 4 r) (λ bs s. taken (numberOfBytes bs) s)
 
 -- a set: its length, and that many bytes
 unfoldable pub sizedSet : List ℕ → Taken (List ℕ)

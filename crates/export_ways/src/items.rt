@@ -1,7 +1,7 @@
 // An item of a script, by each way.
 ghost use mathlib.Core.Path.{_≡_};
 ghost use Rattle.rate_tables.specs.Adjusted.{adjustedOf};
-ghost use Rattle.base_builder.specs.Builder.{withTieRule, resetOf, added, answerOf};
+ghost use Rattle.base_builder.specs.Builder.{withTieRule, resetOf, added, addAnswer};
 ghost use Rattle.export_scripts.specs.Script.{itemOf, passed};
 use base_builder::Addition;
 use base_builder::ConsensusBaseBuilder;
@@ -30,7 +30,7 @@ fn add(
     tables: AdjustedProbabilityTables,
 ) -> Addition
     ensures builder { λ r. ⌜ r .builder ≡ added (tables .correct) (tables .«error_per_alt») base (qual .0) builder ⌝ }
-    ensures answer { λ r. ⌜ r .answer ≡ answerOf base builder ⌝ }
+    ensures answer { λ r. ⌜ r .answer ≡ addAnswer base builder ⌝ }
 {
     if lent {
         return lent_builder::add_in_place(builder, base, qual, tables);

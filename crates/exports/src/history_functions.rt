@@ -5,7 +5,7 @@ ghost use Rattle.lent_bytes.specs.Buffer.{lengthWritten, written};
 ghost use Rattle.export_reports.specs.Runs.{historyBytes};
 ghost use Rattle.export_reports.specs.State.{builderScriptBytes};
 ghost use Rattle.export_timing.specs.Times.{timesOf};
-ghost use Rattle.export_observations.specs.Observations.{observationBytes};
+ghost use Rattle.export_observations.specs.Observations.{observationCountBytes};
 use export_ways::Way;
 use phred::PhredScore;
 
@@ -89,8 +89,8 @@ pub extern "C" fn consensus_history_times(
 // The counts of a builder of 80 given bytes, by the functions that say them.
 #[no_mangle]
 pub extern "C" fn consensus_observations(state: &[u8], out: &mut [u8]) -> u64
-    ensures reply { λ r. ⌜ r ≡ lengthWritten (observationBytes (now (state .entry))) (now (out .entry)) ⌝ }
-    ensures lent { λ _. ⌜ now (out .exit) ≡ written (observationBytes (now (state .entry))) (now (out .entry)) ⌝ }
+    ensures reply { λ r. ⌜ r ≡ lengthWritten (observationCountBytes (now (state .entry))) (now (out .entry)) ⌝ }
+    ensures lent { λ _. ⌜ now (out .exit) ≡ written (observationCountBytes (now (state .entry))) (now (out .entry)) ⌝ }
 {
     export_observations::observations(state, out)
 }

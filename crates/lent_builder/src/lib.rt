@@ -1,7 +1,7 @@
 // The builder borrowed by &mut: three thin functions over the by-value ones of base_builder. Above each
 // stands one that takes and gives the builder by value, so that its callers need no proof by hand.
 ghost use mathlib.Core.Path.{_≡_};
-ghost use Rattle.base_builder.specs.Builder.{withTieRule, resetOf, added, answerOf, addNumber, refusalOf};
+ghost use Rattle.base_builder.specs.Builder.{withTieRule, resetOf, added, addAnswer, addNumber, refusalOf};
 use base_builder::Addition;
 use base_builder::Answer;
 use base_builder::ConsensusBaseBuilder;
@@ -17,7 +17,7 @@ pub fn add(
     tables: AdjustedProbabilityTables,
 ) -> Answer
     ensures builder { λ _. ⌜ now (builder .exit) ≡ added (tables .correct) (tables .«error_per_alt») base (qual .0) (now (builder .entry)) ⌝ }
-    ensures answer { λ r. ⌜ r ≡ answerOf base (now (builder .entry)) ⌝ }
+    ensures answer { λ r. ⌜ r ≡ addAnswer base (now (builder .entry)) ⌝ }
     ensures number { λ r. ⌜ addNumber r ≡ refusalOf base (now (builder .entry)) ⌝ }
 {
     let addition = (*builder).add(base, qual, tables);
@@ -47,7 +47,7 @@ pub fn add_in_place(
     tables: AdjustedProbabilityTables,
 ) -> Addition
     ensures builder { λ r. ⌜ r .builder ≡ added (tables .correct) (tables .«error_per_alt») base (qual .0) builder ⌝ }
-    ensures answer { λ r. ⌜ r .answer ≡ answerOf base builder ⌝ }
+    ensures answer { λ r. ⌜ r .answer ≡ addAnswer base builder ⌝ }
     ensures number { λ r. ⌜ addNumber (r .answer) ≡ refusalOf base builder ⌝ }
 {
     let mut lent = builder;

@@ -8,7 +8,7 @@ use native.Mathlib.Omega.{arith}
 use lib.ListN.{length, drop, drop-of-length-le}
 use lib.Seq.{take-nil, drop-nil}
 use Rattle.words.specs.Lists.{byteAt}
-use Rattle.lent_bytes.specs.Bytes.{joined, numberBytes, fourBytes, numberOf, numberAt}
+use Rattle.lent_bytes.specs.Bytes.{joined, numberBytes, fourBytes, numberOfBytes, numberAt}
 use Rattle.lent_bytes.proofs.Joined.{joined-length}
 
 -- a number has as many bytes as it is given
@@ -22,8 +22,8 @@ pub fours-length : (l : List ℕ) → length (joined fourBytes l) ≡ 4 * length
 fours-length l = joined-length fourBytes 4 (λ x. bytes-length 4 x) l
 
 -- what has room in its bytes is read back from them
-pub read-back : (n x : ℕ) → x < 256 ^ n → numberOf (numberBytes n x) ≡ x
-unfolding numberBytes numberOf
+pub read-back : (n x : ℕ) → x < 256 ^ n → numberOfBytes (numberBytes n x) ≡ x
+unfolding numberBytes numberOfBytes
 read-back zero x h = omega arith
 read-back (suc n) x h =
     let k : x < 256 ^ n * 256 = rw (pow-suc 256 n) at h in
@@ -31,12 +31,12 @@ read-back (suc n) x h =
 
 -- nothing read
 pub number-none : (s : List ℕ) (at : ℕ) → 0 ≡ numberAt s 0 at
-unfolding numberAt numberOf
+unfolding numberAt numberOfBytes
 number-none s at = refl
 
 -- the byte at a place, 0 where there is none, and then those after it
 pub number-more : (s : List ℕ) (at k : ℕ) → numberAt s (k + 1) at ≡ byteAt s at + 256 * numberAt s k (at + 1)
-unfolding numberAt numberOf
+unfolding numberAt numberOfBytes
 number-more [] at k = rw (drop-nil at, drop-nil (at + 1), take-nil (k + 1), take-nil k)
 number-more (x ∷ s) zero k = rw (add-one k)
 number-more (x ∷ s) (suc at) k = let e : suc at + 1 ≡ suc (at + 1) = omega arith in rw e (number-more s at k)
@@ -54,7 +54,7 @@ number-four s at =
 
 -- past the end
 pub number-past : (s : List ℕ) (n at : ℕ) → length s ≤ at → 0 ≡ numberAt s n at
-unfolding numberAt numberOf
+unfolding numberAt numberOfBytes
 number-past s n at h = rw (drop-of-length-le s h, take-nil n)
 
 -- at the front of what follows a place

@@ -18,10 +18,10 @@ abbrev pub fourBytes : ℕ → List ℕ
 fourBytes x = numberBytes 4 x
 
 -- the number that such bytes are
-unfoldable pub numberOf : List ℕ → ℕ
-numberOf [] = 0
-numberOf (b ∷ bs) = b + 256 * numberOf bs
+unfoldable pub numberOfBytes : List ℕ → ℕ
+numberOfBytes [] = 0
+numberOfBytes (b ∷ bs) = b + 256 * numberOfBytes bs
 
 -- of the n bytes at a place; a byte that is missing counts as 0
 unfoldable pub numberAt : List ℕ → ℕ → ℕ → ℕ
-numberAt s n at = numberOf (take n (drop at s))
+numberAt s n at = numberOfBytes (take n (drop at s))

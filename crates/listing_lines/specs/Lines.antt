@@ -10,7 +10,7 @@ use Rattle.tie_rules.specs.Lanes.{counted}
 use Rattle.lane_calls.specs.declared.call.Call.{Call}
 use Rattle.column_file.specs.declared.settings.Settings.{Settings}
 use Rattle.column_file.specs.Format.{Observation}
-use Rattle.column_calls.specs.Columns.{builderOf, columnCall, depthOf}
+use Rattle.column_calls.specs.Columns.{builderOfColumn, columnCall, depthOf}
 
 -- what the fields of a column's line are called
 abbrev pub header : List ℕ
@@ -25,7 +25,7 @@ lineOf i call depth counts =
 
 -- of column number i
 unfoldable pub columnLine : ℕ → Settings → List Observation → List ℕ
-columnLine i g c = lineOf i (columnCall g c) (depthOf c) (builderOf g c .observations)
+columnLine i g c = lineOf i (columnCall g c) (depthOf c) (builderOfColumn g c .observations)
 
 -- of columns, numbered from i on
 unfoldable pub columnLines : ℕ → Settings → List (List Observation) → List (List ℕ)

@@ -20,7 +20,7 @@ use Rattle.rate_tables.specs.declared.adjusted.AdjustedEntry.{AdjustedEntry}
 use Rattle.rate_tables.specs.Adjusted.{adjustedTables}
 use Rattle.umi_column.specs.Calls.{namedByte}
 use Rattle.umi_column.proofs.Columns.{column-builder, column-byte}
-use Rattle.umi_rows.specs.Rows.{Fits, rowsAt, columnsAt}
+use Rattle.umi_rows.specs.Rows.{RowsFit, rowsAt, rowColumnsAt}
 use Rattle.umi_verdicts.specs.FamilyVerdicts.{verdictWithin, verdictAt}
 use Rattle.umi_family.specs.Family.{builderBy, bytesBy, lastBy}
 use Rattle.umi_groups.specs.Groups.{lengthsAlike, entryAt, familyAt}
@@ -29,13 +29,13 @@ use Rattle.umi_rows.proofs.RowLoops.{every-at, fit-so}
 use Rattle.string_set.specs.declared.Reading.{Reading}
 use Rattle.string_set.specs.declared.Reading.the-variants.{Refused, Strings}
 use Rattle.string_set.specs.StringSet.{readSet}
-use Rattle.string_set.specs.Places.{readingOf}
+use Rattle.string_set.specs.Places.{setReadingOf}
 use Rattle.string_set.proofs.Strings.{stringAt}
 use Rattle.string_set.proofs.Placed.{Placed, Ensured, placed}
 use Rattle.simple_consensus.specs.declared.caller.SimpleConsensusCaller.{SimpleConsensusCaller}
 use Rattle.simple_consensus.specs.Strings.{firstOf, columnsOf, alike, isFamily}
 use Rattle.simple_consensus.specs.Verdicts.{familyVerdict, consensusVerdict, umisVerdict, callVerdict}
-use Rattle.simple_consensus.specs.Consensus.{builderAt, byteOf, familyFound, firstFound, found, consensusOf, umisOf, callConsensusOf}
+use Rattle.simple_consensus.specs.Consensus.{builderAt, consensusByte, familyFound, firstFound, found, consensusOf, umisOf, callConsensusOf}
 use Rattle.simple_consensus.specs.Places.{Trimmed, trimmedAt, stringsAt, groupBy}
 use Rattle.simple_consensus.proofs.Rows.{columns-length, columns-same}
 
@@ -107,7 +107,7 @@ module _ (trim : ℕ) (s ps : List ℕ) (g : Trimmed trim s ps) where
     pub strings-rows : stringsAt trim s ps ≡ rowsAt (byteAt s (byteAt ps 0) - trim) s ps
     strings-rows = rows-from trim s (byteAt ps 0) ps same
 
-    pub strings-fit : Fits (byteAt s (byteAt ps 0) - trim) s ps
+    pub strings-fit : RowsFit (byteAt s (byteAt ps 0) - trim) s ps
     strings-fit = (
       h,
       g .0,
@@ -159,11 +159,11 @@ module _ (c : SimpleConsensusCaller) (entry : AdjustedEntry)
   builder-by : (column : List ℕ) → builderBy entry (c .builder) column ≡ builderAt c column
   builder-by column = rw (right, wrong) (column-builder (c .«error_rate_post_labeling» .0) (c .«q_error» .0) column (c .builder))
 
-  byte-by : (column : List ℕ) → namedByte (builderBy entry (c .builder) column) (byteAt column 0) ≡ byteOf c column
+  byte-by : (column : List ℕ) → namedByte (builderBy entry (c .builder) column) (byteAt column 0) ≡ consensusByte c column
   byte-by column =
       rw (builder-by column) (column-byte (c .«error_rate_pre_labeling» .0) (c .«error_rate_post_labeling» .0) (c .«q_error» .0) column (c .builder))
 
-  pub bytes-by : (columns : List (List ℕ)) → bytesBy entry (c .builder) columns ≡ map (byteOf c) columns
+  pub bytes-by : (columns : List (List ℕ)) → bytesBy entry (c .builder) columns ≡ map (consensusByte c) columns
   bytes-by [] = refl
   bytes-by (column ∷ columns) = λ i. byte-by column i ∷ bytes-by columns i
 
@@ -175,14 +175,14 @@ module _ (c : SimpleConsensusCaller) (entry : AdjustedEntry)
   last-by columns = ap (lastOr (c .builder)) (builders-by columns)
 
 -- its verdict
-pub verdict-same : (w : ℕ) (s ps : List ℕ) → Fits w s ps → verdictAt w s ps ≡ familyVerdict w (rowsAt w s ps)
+pub verdict-same : (w : ℕ) (s ps : List ℕ) → RowsFit w s ps → verdictAt w s ps ≡ familyVerdict w (rowsAt w s ps)
 unfolding verdictAt verdictWithin familyVerdict
 verdict-same w s ps fit = rw (fit-so w s ps fit, columns-same w s ps)
 
 -- the answer is as long as the strings
 pub found-length : (c : SimpleConsensusCaller) (w : ℕ) (strings : List (List ℕ)) → length (familyFound c w strings .text) ≡ w
 unfolding familyFound
-found-length c w strings = length-map (columnsOf w strings) (byteOf c) ∙ columns-length w strings
+found-length c w strings = length-map (columnsOf w strings) (consensusByte c) ∙ columns-length w strings
 
 -- ---- a group as it is run
 module _ (c : SimpleConsensusCaller) where
@@ -190,10 +190,10 @@ module _ (c : SimpleConsensusCaller) where
   entry = entryAt (c .«error_rate_post_labeling» .0) (c .«q_error» .0)
 
   -- a family whose strings lie in the set
-  family-said : (w : ℕ) (s ps : List ℕ) → Fits w s ps
+  family-said : (w : ℕ) (s ps : List ℕ) → RowsFit w s ps
       → familyAt entry (c .builder) w s ps ≡ judged (familyVerdict w (rowsAt w s ps)) (familyFound c w (rowsAt w s ps))
   unfolding familyAt familyFound
-  family-said w s ps fit = rw (verdict-same w s ps fit, columns-same w s ps, ← bytes-by c entry refl refl (columnsAt w s ps), ← last-by c entry refl refl (columnsAt w s ps))
+  family-said w s ps fit = rw (verdict-same w s ps fit, columns-same w s ps, ← bytes-by c entry refl refl (rowColumnsAt w s ps), ← last-by c entry refl refl (rowColumnsAt w s ps))
 
   module _ (trim : ℕ) (s ps : List ℕ) (g : Trimmed trim s ps) where
     abbrev strings : List (List ℕ)
@@ -251,7 +251,7 @@ module _ (s ps : List ℕ) where
   map-whole [] = refl
   map-whole (q ∷ qs) = rw (whole-string s q, map-whole qs)
 
-  set-read : (t : Result (List (List ℕ))) → Placed s t ps → Read s ps t (readingOf t)
+  set-read : (t : Result (List (List ℕ))) → Placed s t ps → Read s ps t (setReadingOf t)
   set-read (refused r) h = refl
   set-read (accepted l) h =
       let n = length l in

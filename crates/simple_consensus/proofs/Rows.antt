@@ -7,7 +7,7 @@ use lib.ListN.{length, drop, getD}
 use lib.Seq.{getD-take, getD-drop}
 use Rattle.words.specs.Lists.{listed}
 use Rattle.words.proofs.Listed.{listed-length, level-at}
-use Rattle.umi_rows.specs.Rows.{rowsAt, bytesAt, columnsAt}
+use Rattle.umi_rows.specs.Rows.{rowsAt, bytesAt, rowColumnsAt}
 use Rattle.simple_consensus.specs.Strings.{columnOf, columnsOf}
 
 pub columns-length : (w : ℕ) (rows : List (List ℕ)) → length (columnsOf w rows) ≡ w
@@ -28,6 +28,6 @@ listed-same f g a zero e = refl
 listed-same f g a (suc n) e = rw (e a (omega arith), listed-same f g (a + 1) n (λ k h. e k (omega arith)))
 
 -- they are those of the bytes after the places
-pub columns-same : (w : ℕ) (s ps : List ℕ) → columnsOf w (rowsAt w s ps) ≡ columnsAt w s ps
-unfolding columnsOf columnsAt
+pub columns-same : (w : ℕ) (s ps : List ℕ) → columnsOf w (rowsAt w s ps) ≡ rowColumnsAt w s ps
+unfolding columnsOf rowColumnsAt
 columns-same w s ps = listed-same (columnOf (rowsAt w s ps)) (λ k. bytesAt k s ps) 0 w (λ k h. column-bytes w s ps k (omega arith))

@@ -44,13 +44,13 @@ abbrev pub builderAt : SimpleConsensusCaller → List ℕ → ConsensusBaseBuild
 builderAt c column = columnBuilder (c .«error_rate_post_labeling» .0) (c .«q_error» .0) column (c .builder)
 
 -- the byte that the column gives
-abbrev pub byteOf : SimpleConsensusCaller → List ℕ → ℕ
-byteOf c column = columnByte (c .«error_rate_pre_labeling» .0) column (builderAt c column)
+abbrev pub consensusByte : SimpleConsensusCaller → List ℕ → ℕ
+consensusByte c column = columnByte (c .«error_rate_pre_labeling» .0) column (builderAt c column)
 
 -- of a family: each column's byte, and the builder as the last column leaves it
 unfoldable pub familyFound : SimpleConsensusCaller → ℕ → List (List ℕ) → Found
 familyFound c width strings =
-    let text = map (byteOf c) (columnsOf width strings) in
+    let text = map (consensusByte c) (columnsOf width strings) in
     record { text = text; hadErrors = any (differsFrom text) strings; builder = lastOr (c .builder) (map (builderAt c) (columnsOf width strings)) }
 
 -- of other strings: the first one, with no error where there is at most one, and the builder as it was

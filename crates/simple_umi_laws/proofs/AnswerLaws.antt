@@ -25,8 +25,8 @@ use Rattle.simple_consensus.specs.declared.caller.SimpleConsensusCaller.{Simple
 use Rattle.umi_rows.specs.Rows.{differsFrom}
 use Rattle.simple_consensus.specs.Strings.{firstOf, columnOf, columnsOf, alike, isFamily}
 use Rattle.umi_groups.specs.Found.{Found}
-use Rattle.simple_consensus.specs.Consensus.{withBuilder, builderAt, byteOf, familyFound, firstFound, found, consensusOf, umisOf, callConsensusOf}
-use Rattle.simple_umi_laws.specs.Laws.{isBaseOrN, builderAfter, Answered}
+use Rattle.simple_consensus.specs.Consensus.{withBuilder, builderAt, consensusByte, familyFound, firstFound, found, consensusOf, umisOf, callConsensusOf}
+use Rattle.simple_umi_laws.specs.Laws.{isBaseOrN, builderAfterColumns, Answered}
 use Rattle.simple_umi_laws.proofs.Resets.{column-start, columns-reset, columns-last}
 use Rattle.simple_consensus.proofs.Groups.{said-first, umis-alike, umis-unlike, call-none, call-some}
 use Rattle.simple_umi_laws.proofs.ConditionLaws.{one-alike}
@@ -53,17 +53,17 @@ module _ (c : SimpleConsensusCaller) (strings : List (List ℕ)) where
   other-found h = rw h
 
   -- a family's text, by its columns
-  family-text : isFamily strings ≡ true → found c strings .text ≡ listed (λ k. byteOf c (columnOf strings k)) 0 (length (firstOf strings))
+  family-text : isFamily strings ≡ true → found c strings .text ≡ listed (λ k. consensusByte c (columnOf strings k)) 0 (length (firstOf strings))
   unfolding found familyFound columnsOf
-  family-text h = rw h (map-listed (byteOf c) (columnOf strings) 0 (length (firstOf strings)))
+  family-text h = rw h (map-listed (consensusByte c) (columnOf strings) 0 (length (firstOf strings)))
 
   family-builder : isFamily strings ≡ true
       → found c strings .builder ≡ lastOr (c .builder) (listed (λ k. builderAt c (columnOf strings k)) 0 (length (firstOf strings)))
   unfolding found familyFound columnsOf
   family-builder h = rw h (ap (lastOr (c .builder)) (map-listed (builderAt c) (columnOf strings) 0 (length (firstOf strings))))
 
-  family-byte : isFamily strings ≡ true → (k : ℕ) → k < length (firstOf strings) → byteAt (found c strings .text) k ≡ byteOf c (columnOf strings k)
-  family-byte h k l = rw (family-text h) (level-at (λ j. byteOf c (columnOf strings j)) 0 (length (firstOf strings)) k l)
+  family-byte : isFamily strings ≡ true → (k : ℕ) → k < length (firstOf strings) → byteAt (found c strings .text) k ≡ consensusByte c (columnOf strings k)
+  family-byte h k l = rw (family-text h) (level-at (λ j. consensusByte c (columnOf strings j)) 0 (length (firstOf strings)) k l)
 
   family-flag : isFamily strings ≡ true → found c strings .hadErrors ≡ any (differsFrom (found c strings .text)) strings
   unfolding found familyFound
@@ -135,7 +135,7 @@ module _ (c : SimpleConsensusCaller) (strings : List (List ℕ)) where
   all-long : length (found c strings .text) ≡ width
   unfolding firstFound
   all-long =
-      test (isFamily strings) (λ h. rw (family-text c strings h) (listed-length (λ k. byteOf c (columnOf strings k)) 0 width)) (λ h. rw (other-found c strings h))
+      test (isFamily strings) (λ h. rw (family-text c strings h) (listed-length (λ k. consensusByte c (columnOf strings k)) 0 width)) (λ h. rw (other-found c strings h))
 
   all-letters : isFamily strings ≡ true → (k : ℕ) → k < width → isDnaBase (byteAt (firstOf strings) k) ≡ true
       → isBaseOrN (byteAt (found c strings .text) k) ≡ true
@@ -180,7 +180,7 @@ module _ (c : SimpleConsensusCaller) (strings : List (List ℕ)) where
   unfolding listed
   first-builder h e = rw (family-builder c strings h, e)
 
-  all-columns : isFamily strings ≡ true → found c strings .builder ≡ builderAfter c (columnsOf width strings)
+  all-columns : isFamily strings ≡ true → found c strings .builder ≡ builderAfterColumns c (columnsOf width strings)
   unfolding found familyFound
   all-columns h =
       rw h (sym (columns-last (c .«error_rate_post_labeling» .0) (c .«q_error» .0) (columnsOf width strings) (c .builder) (c .builder) refl))
@@ -191,11 +191,11 @@ module _ (c : SimpleConsensusCaller) where
   unfolding withBuilder
   same-start b column e = column-start (c .«error_rate_post_labeling» .0) (c .«q_error» .0) column b (c .builder) e
 
-  after-reset : (columns : List (List ℕ)) → resetOf (builderAfter c columns) ≡ resetOf (c .builder)
+  after-reset : (columns : List (List ℕ)) → resetOf (builderAfterColumns c columns) ≡ resetOf (c .builder)
   after-reset columns = columns-reset (c .«error_rate_post_labeling» .0) (c .«q_error» .0) columns (c .builder)
 
-  any-start : (before : List (List ℕ)) (column : List ℕ) → builderAt (withBuilder (builderAfter c before) c) column ≡ builderAt c column
-  any-start before column = same-start (builderAfter c before) column (after-reset before)
+  any-start : (before : List (List ℕ)) (column : List ℕ) → builderAt (withBuilder (builderAfterColumns c before) c) column ≡ builderAt c column
+  any-start before column = same-start (builderAfterColumns c before) column (after-reset before)
 
   pub found-reset : (strings : List (List ℕ)) → resetOf (found c strings .builder) ≡ resetOf (c .builder)
   found-reset strings =

@@ -20,7 +20,7 @@ use Rattle.umi_rows.specs.Rows.{isHigh}
 use Rattle.simple_consensus.specs.Strings.{firstOf, columnsOf, alike, isFamily}
 use Rattle.simple_consensus.specs.Verdicts.{familyVerdict, consensusVerdict, umisVerdict, callVerdict}
 use Rattle.umi_groups.specs.Found.{Found}
-use Rattle.simple_umi_laws.specs.Laws.{sound, Conditions, Room}
+use Rattle.simple_umi_laws.specs.Laws.{sound, StringConditions, AnswerRoom}
 use Rattle.simple_consensus.proofs.Rows.{columns-length, column-at}
 use Rattle.simple_consensus.proofs.Groups.{no-family}
 use Rattle.umi_groups.proofs.Room.{room-short, room-enough}
@@ -97,7 +97,7 @@ one-umis t = alike-umis (t ∷ []) (one-alike t) ∙ other-sound (t ∷ []) (no-
 one-call : (t : List ℕ) → callVerdict (t ∷ []) ≡ Sound
 one-call t = some-call (t ∷ []) refl ∙ one-umis t
 
-pub conditions : (strings : List (List ℕ)) → Conditions strings
+pub conditions : (strings : List (List ℕ)) → StringConditions strings
 conditions strings = record {
   none = λ e. rw e none-verdicts;
   unequal = λ h.
@@ -120,5 +120,5 @@ conditions strings = record {
       (λ j m. let l : j < width = rw (columns-length width strings) at m in rw (column-at width strings j l) (f j l));
 }
 
-pub room : (out : List ℕ) (f : Found) → Room out f
+pub room : (out : List ℕ) (f : Found) → AnswerRoom out f
 room out f = record { short = room-short out f; enough = λ h. room-enough out f (omega arith) }

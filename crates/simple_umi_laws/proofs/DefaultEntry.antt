@@ -8,9 +8,9 @@ use Rattle.float.specs.Ops.{bits}
 use Rattle.float.specs.Methods.{betweenOf}
 use Rattle.elementary_tables.specs.ExpTable.{expRowOf}
 use Rattle.elementary_tables.specs.LnTable.{lnRowOf}
-use Rattle.elementary.specs.Fma.{headOf, lostOf, productErrorOf, fmaSmallProductOf, fmaLargeProductOf}
+use Rattle.elementary.specs.Fma.{leadingDigits, lostOf, productErrorOf, fmaSmallProductOf, fmaLargeProductOf}
 use Rattle.elementary.specs.Exp.{seriesOf, powerOfTwoOf, scaledOf, from0Of, nearOf, expOf}
-use Rattle.elementary.specs.LnOnePlus.{reducedOf, expansionOf, joinedOf, numberOf, lnOnePlusOf}
+use Rattle.elementary.specs.LnOnePlus.{reducedOf, expansionOf, joinedOf, lnOnePlusOfNumber, lnOnePlusOf}
 use Rattle.elementary.specs.Ln.{ratioOf, normalOf, lnOf}
 use Rattle.phred.specs.Phred.{phredToLnErrorProb, lnOneMinusExp, lnNot, twoTrials, lnErrorProbTwoTrials}
 use Rattle.rate_tables.specs.Adjusted.{adjustedError, correctAt, errorPerAltAt, adjustedTables}
@@ -24,7 +24,7 @@ abbrev pub wrong : Float
 wrong = bits 0xc016_d0ac_5a60_95d9
 
 pub correct-20 : correctAt 90 20 ≡ right
-unfolding sub mul div le ne ofBits toBits ofInt headOf lostOf productErrorOf fmaSmallProductOf fmaLargeProductOf expRowOf seriesOf powerOfTwoOf scaledOf from0Of nearOf expOf betweenOf reducedOf expansionOf joinedOf numberOf lnOnePlusOf phredToLnErrorProb lnOneMinusExp lnNot twoTrials lnErrorProbTwoTrials adjustedError correctAt
+unfolding sub mul div le ne ofBits toBits ofInt leadingDigits lostOf productErrorOf fmaSmallProductOf fmaLargeProductOf expRowOf seriesOf powerOfTwoOf scaledOf from0Of nearOf expOf betweenOf reducedOf expansionOf joinedOf lnOnePlusOfNumber lnOnePlusOf phredToLnErrorProb lnOneMinusExp lnNot twoTrials lnErrorProbTwoTrials adjustedError correctAt
 correct-20 = refl
 
 pub error-20 : errorPerAltAt 90 20 ≡ wrong

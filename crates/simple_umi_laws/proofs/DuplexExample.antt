@@ -26,7 +26,7 @@ use Rattle.umi_rows.specs.Rows.{differsFrom}
 use Rattle.simple_consensus.specs.Strings.{columnsOf, alike, isFamily}
 use Rattle.simple_consensus.specs.Verdicts.{familyVerdict, consensusVerdict}
 use Rattle.umi_groups.specs.Found.{Found}
-use Rattle.simple_consensus.specs.Consensus.{callerAt, defaultCaller, withBuilder, builderAt, byteOf, familyFound, firstFound, found, consensusOf}
+use Rattle.simple_consensus.specs.Consensus.{callerAt, defaultCaller, withBuilder, builderAt, consensusByte, familyFound, firstFound, found, consensusOf}
 use Rattle.simple_umi.specs.Duplex.{endsIn, strandOf, duplexOf}
 use Rattle.umi_groups.specs.Found.{roomFor}
 use Rattle.simple_umi.specs.Answers.{duplexIn}
@@ -48,7 +48,7 @@ named : bytesBy entry (newAt 90) columns ≡ 65 ∷ 67 ∷ []
 unfolding add sub div neg lt le eq isNan ofBits absOf namedByte isDnaBase toAsciiUppercase addedAll addedBy isFull total observed movedBy valueOf countOf lanes laneOfByte baseOf resetOf cleared newAt uniqueMaxIndexWith fgbioUniqueMaxIndex notMinusInfinity scan fgbioStep fgbioTie
 named = refl
 
-bytes : map (byteOf defaultCaller) columns ≡ 65 ∷ 67 ∷ []
+bytes : map (consensusByte defaultCaller) columns ≡ 65 ∷ 67 ∷ []
 unfolding callerAt
 bytes = sym (bytes-by defaultCaller entry (sym correct-entry) (sym error-entry) columns) ∙ named
 

@@ -10,7 +10,7 @@ use Rattle.simple_consensus.specs.declared.caller.SimpleConsensusCaller.{Simple
 use Rattle.simple_consensus.specs.Strings.{firstOf, columnOf, isFamily}
 use Rattle.umi_groups.specs.Found.{Found}
 use Rattle.simple_consensus.specs.Consensus.{withBuilder, builderAt, consensusOf}
-use Rattle.simple_umi.specs.Duplex.{FoundDuplex, endsIn, strandOf, duplexOf}
+use Rattle.simple_umi.specs.Duplex.{FoundDuplex, endsIn, strandOf, duplexOf, pairing}
 
 -- which strings a strand has
 pub record Strand (letter : ℕ) : Type 0 where
@@ -18,10 +18,6 @@ pub record Strand (letter : ℕ) : Type 0 where
   pub dropped : (ts us : List (List ℕ)) (t : List ℕ) → endsIn letter t ≡ false → strandOf letter (ts ++ (t ∷ us)) ≡ strandOf letter (ts ++ us)
   -- one that does is there without these two bytes
   pub trimmed : (ts us : List (List ℕ)) (t : List ℕ) → strandOf letter (ts ++ ((t ++ (47 ∷ letter ∷ [])) ∷ us)) ≡ strandOf letter ts ++ (t ∷ strandOf letter us)
-
--- what both strands give
-abbrev pub pairing : Found → Found → List ℕ → FoundDuplex
-pairing a b text = record { found = record { text = text; hadErrors = a .hadErrors; builder = b .builder }; hadErrorsB = b .hadErrors }
 
 -- no family of non-empty strings, so no column is called
 abbrev pub noColumn : List (List ℕ) → Type 0

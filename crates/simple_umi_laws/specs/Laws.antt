@@ -12,7 +12,7 @@ use Rattle.refusals.specs.declared.Verdict.the-variants.{Sound, Refused}
 use Rattle.refusals.specs.Result.{refused, accepted}
 use Rattle.rate_tables.specs.Adjusted.{adjustedTables}
 use Rattle.base_builder.specs.declared.builder.ConsensusBaseBuilder.{ConsensusBaseBuilder}
-use Rattle.base_builder_laws.specs.GoodCalls.{isBase}
+use Rattle.base_builder_laws.specs.GoodCalls.{isCalledBase}
 use Rattle.base_builder.specs.History.{Event, run}
 use Rattle.umi_column.specs.Dna.{isDnaBase}
 use Rattle.umi_column.specs.Verdicts.{verdictOf}
@@ -31,7 +31,7 @@ use Rattle.umi_groups.specs.Found.{roomFor}
 abbrev pub sound : List ℕ → Type 0
 sound column = verdictOf column ≡ Sound
 
-pub record Conditions (strings : List (List ℕ)) : Type 0 where
+pub record StringConditions (strings : List (List ℕ)) : Type 0 where
   -- 5: no strings, which only `call_consensus` refuses
   pub none : strings ≡ [] → (callVerdict strings ≡ Refused NoStrings) × (umisVerdict strings ≡ Sound) × (consensusVerdict strings ≡ Sound)
   -- 6: unequal lengths, which `consensus` does not refuse
@@ -57,7 +57,7 @@ pub record Conditions (strings : List (List ℕ)) : Type 0 where
       → consensusVerdict strings ≡ Sound
 
 -- 10 comes last: a buffer that is shorter than the answer, and no other
-pub record Room (out : List ℕ) (f : Found) : Type 0 where
+pub record AnswerRoom (out : List ℕ) (f : Found) : Type 0 where
   pub short : length out < length (f .text) → roomFor out f ≡ refused BufferTooShort
   pub enough : (length out < length (f .text) → ⊥) → roomFor out f ≡ accepted f
 
@@ -65,7 +65,7 @@ pub record Room (out : List ℕ) (f : Found) : Type 0 where
 
 -- A, C, G, T or N
 abbrev pub isBaseOrN : ℕ → Bool
-isBaseOrN x = isBase x || eqb x 78
+isBaseOrN x = isCalledBase x || eqb x 78
 
 -- what happens to the builder at columns, one after another
 abbrev pub allEvents : ℕ → List (List ℕ) → List Event
@@ -73,8 +73,8 @@ allEvents q [] = []
 allEvents q (column ∷ columns) = columnEvents q column ++ allEvents q columns
 
 -- the caller's builder after them
-abbrev pub builderAfter : SimpleConsensusCaller → List (List ℕ) → ConsensusBaseBuilder
-builderAfter c columns = run (adjustedTables (c .«error_rate_post_labeling» .0)) (allEvents (c .«q_error» .0) columns) (c .builder)
+abbrev pub builderAfterColumns : SimpleConsensusCaller → List (List ℕ) → ConsensusBaseBuilder
+builderAfterColumns c columns = run (adjustedTables (c .«error_rate_post_labeling» .0)) (allEvents (c .«q_error» .0) columns) (c .builder)
 
 pub record Answered (c : SimpleConsensusCaller) (strings : List (List ℕ)) : Type 0 where
   -- the answer is as long as the first string, and empty where there is none
@@ -105,9 +105,9 @@ pub record Answered (c : SimpleConsensusCaller) (strings : List (List ℕ)) : Ty
   pub last-column : isFamily strings ≡ true
       → (k : ℕ) → length (firstOf strings) ≡ suc k → found c strings .builder ≡ builderAt c (columnOf strings k)
   -- which is what all columns leave, one after another on one builder, as the source runs them
-  pub all-columns : isFamily strings ≡ true → found c strings .builder ≡ builderAfter c (columnsOf (length (firstOf strings)) strings)
+  pub all-columns : isFamily strings ≡ true → found c strings .builder ≡ builderAfterColumns c (columnsOf (length (firstOf strings)) strings)
   -- since a column starts with a reset, which keeps the rule and the rate alone: what it leaves does not depend on the columns before it
-  pub any-start : (before : List (List ℕ)) (column : List ℕ) → builderAt (withBuilder (builderAfter c before) c) column ≡ builderAt c column
+  pub any-start : (before : List (List ℕ)) (column : List ℕ) → builderAt (withBuilder (builderAfterColumns c before) c) column ≡ builderAt c column
   -- where `call_consensus` accepts, `consensus` gives the same
   pub agree : (f : Found) → callConsensusOf c strings ≡ accepted f → consensusOf c strings ≡ accepted f
   -- `consensus_umis`, which is `umisOf` at the defaults, is `call_consensus` but for no strings

@@ -14,12 +14,12 @@ use Rattle.string_set.specs.Readers.{longestFile}
 use Rattle.column_file.proofs.FileRead.{file-long}
 use Rattle.judged_file.specs.Judged.{judgeFile}
 use Rattle.listing_lines.specs.Lines.{refusalLine}
-use Rattle.column_listing.specs.Listing.{listed, listingOf}
+use Rattle.column_listing.specs.Listing.{listedFile, listingOf}
 use Rattle.stream_listing.specs.Streams.{FrontOf, onto}
 
 -- all streams that are too long have the same listing
 long-listing : (s : List ℕ) → longestFile < length s → listingOf s ≡ refusalLine FileTooLong
-unfolding listingOf listed judgeFile
+unfolding listingOf listedFile judgeFile
 long-listing s h = rw (file-long s h)
 
 -- a stream came in whole, or both it and what came in are too long

@@ -19,7 +19,7 @@ use Rattle.string_set.specs.declared.Reading.{Reading}
 use Rattle.string_set.specs.declared.Reading.the-variants.{Refused, Strings}
 use Rattle.string_set.specs.Readers.{Taken, taken, short, next, many, alone, longestFile}
 use Rattle.string_set.specs.StringSet.{string, stringSet, readSet}
-use Rattle.string_set.specs.Places.{readingOf, readingNumber, readingCount, placesFrom, placesOf, placesAfter}
+use Rattle.string_set.specs.Places.{setReadingOf, setReadingNumber, readingCount, placesFrom, setPlacesOf, placesAfter}
 use Rattle.string_set.proofs.Readers.{byte-at, byte-end}
 use Rattle.string_set.proofs.Strings.{stringAt, string-at, string-cut}
 
@@ -80,15 +80,15 @@ places-length : (at : ℕ) (l : List (List ℕ)) → length (placesFrom at l) �
 places-length at [] = refl
 places-length at (t ∷ l) = ap suc (places-length (at + 1 + length t) l)
 
-to-place-read : (s ps : List ℕ) (n : ℕ) (t : Result (List (List ℕ))) → SetLies s t → Strings n ≡ readingOf t → n ≤ length ps → ToPlace s (placesAfter t ps) n ps 0 1
+to-place-read : (s ps : List ℕ) (n : ℕ) (t : Result (List (List ℕ))) → SetLies s t → Strings n ≡ setReadingOf t → n ≤ length ps → ToPlace s (placesAfter t ps) n ps 0 1
 to-place-read s ps n (refused r) g e h = absurd (let z : _≡_ {A = ℕ} 0 1 = cc in omega arith)
 to-place-read s ps n (accepted l) g e h =
     let size : n ≡ length l = cc in
-    let fits : 0 + length (placesOf l) ≤ length ps = rw (places-length 1 l) (omega arith) in
-    (l, g, omega arith, rw (sets-eq (placesOf l) ps 0 fits, zero-add (length (placesOf l)), places-length 1 l))
+    let fits : 0 + length (setPlacesOf l) ≤ length ps = rw (places-length 1 l) (omega arith) in
+    (l, g, omega arith, rw (sets-eq (setPlacesOf l) ps 0 fits, zero-add (length (setPlacesOf l)), places-length 1 l))
 
 -- none is placed yet
-pub to-place-all : (s ps : List ℕ) (n : ℕ) → Strings n ≡ readingOf (readSet s) → n ≤ length ps → ToPlace s (placesAfter (readSet s) ps) n ps 0 1
+pub to-place-all : (s ps : List ℕ) (n : ℕ) → Strings n ≡ setReadingOf (readSet s) → n ≤ length ps → ToPlace s (placesAfter (readSet s) ps) n ps 0 1
 to-place-all s ps n e h = to-place-read s ps n (readSet s) (set-lies s) e h
 
 -- one more: its string ends within the bytes
@@ -113,24 +113,24 @@ pub to-place-none : (s done ps : List ℕ) (n k at : ℕ) → ToPlace s done n p
 to-place-none s done ps n k at p h = to-place-end ps done k at (p .0) (omega (arith, p .2)) (p .3)
 
 -- a refusal leaves them
-pub refused-leaves : (ps : List ℕ) (t : Result (List (List ℕ))) (r : Refusal) → Refused r ≡ readingOf t → ps ≡ placesAfter t ps
+pub refused-leaves : (ps : List ℕ) (t : Result (List (List ℕ))) (r : Refusal) → Refused r ≡ setReadingOf t → ps ≡ placesAfter t ps
 refused-leaves ps (refused q) r e = refl
 refused-leaves ps (accepted l) r e = absurd (let z : _≡_ {A = ℕ} 0 1 = cc in omega arith)
 
 -- a reading's number
-same-number : (t : Result (List (List ℕ))) → readingNumber (readingOf t) ≡ numberIn t
+same-number : (t : Result (List (List ℕ))) → setReadingNumber (setReadingOf t) ≡ numberIn t
 same-number (refused r) = refl
 same-number (accepted l) = refl
 
-pub said-number : (g : Reading) (t : Result (List (List ℕ))) → g ≡ readingOf t → readingNumber g ≡ numberIn t
-said-number g t e = numbered readingOf readingNumber same-number g t e .1
+pub said-number : (g : Reading) (t : Result (List (List ℕ))) → g ≡ setReadingOf t → setReadingNumber g ≡ numberIn t
+said-number g t e = numbered setReadingOf setReadingNumber same-number g t e .1
 
 -- ---- what lies at the places
 
 -- what `read_places` ensures of a set, of the places before and after, and of its answer
 abbrev pub Ensured : List ℕ → List ℕ → List ℕ → Reading → Type 0
 Ensured s before ps g =
-    (g ≡ readingOf (readSet s)) × ((ps ≡ placesAfter (readSet s) before) × ((readingNumber g ≡ numberIn (readSet s)) × (readingCount g ≤ 255)))
+    (g ≡ setReadingOf (readSet s)) × ((ps ≡ placesAfter (readSet s) before) × ((setReadingNumber g ≡ numberIn (readSet s)) × (readingCount g ≤ 255)))
 
 -- the first n places are those of strings that end within the bytes
 abbrev Inside : List ℕ → List ℕ → ℕ → Type 0
@@ -151,14 +151,14 @@ module _ (s : List ℕ) where
   lying-inside at (t ∷ l) g zero h = rw (g .0) (g .1)
   lying-inside at (t ∷ l) g (suc k) h = lying-inside (at + 1 + length t) l (g .3) k (le-of-suc-le-suc h)
 
-  placed-of : (ps : List ℕ) (t : Result (List (List ℕ))) → SetLies s t → readingCount (readingOf t) ≤ 255 → Placed s t (placesAfter t ps)
+  placed-of : (ps : List ℕ) (t : Result (List (List ℕ))) → SetLies s t → readingCount (setReadingOf t) ≤ 255 → Placed s t (placesAfter t ps)
   placed-of ps (refused r) g h = tt
   placed-of ps (accepted l) g h =
       let rest = drop (length l) ps in
       let size = places-length 1 l in (
-        rw (take-at (placesOf l) rest (length l) size) (lying-there 1 l g),
+        rw (take-at (setPlacesOf l) rest (length l) size) (lying-there 1 l g),
         omega arith,
-        λ k i. rw (List·getD-append (placesOf l) rest 0 k (rw size i)) (lying-inside 1 l g k i),
+        λ k i. rw (List·getD-append (setPlacesOf l) rest 0 k (rw size i)) (lying-inside 1 l g k i),
       )
 
   -- by what `read_places` ensures

@@ -13,7 +13,7 @@ use Rattle.refusals.specs.Result.{refused}
 use Rattle.string_set.specs.declared.Reading.the-variants.{Strings}
 use Rattle.string_set.specs.Readers.{taken, short, many, longestFile}
 use Rattle.string_set.specs.StringSet.{string, stringSet, readSet}
-use Rattle.string_set.specs.Places.{readingOf}
+use Rattle.string_set.specs.Places.{setReadingOf}
 use Rattle.string_set.proofs.Readers.{byte-at, byte-end, front-at, front-end, lone-long, lone-cut, lone-left, lone-all, prepend, prepend-none, many-more, many-cut, many-done}
 
 -- the string whose length byte is at a place
@@ -85,6 +85,6 @@ module _ (s : List ℕ) where
     unfolding readSet
     left-over l at c k = lone-left stringSet s fits l at (announced ∙ c) k
 
-    pub all-read : (l : List (List ℕ)) (at : ℕ) → many string n (drop 1 s) ≡ taken l (drop at s) → length s ≤ at → length l ≡ n → Strings n ≡ readingOf (readSet s)
+    pub all-read : (l : List (List ℕ)) (at : ℕ) → many string n (drop 1 s) ≡ taken l (drop at s) → length s ≤ at → length l ≡ n → Strings n ≡ setReadingOf (readSet s)
     unfolding readSet
     all-read l at c k size = rw (lone-all stringSet s fits l at (announced ∙ c) k, size)

@@ -8,14 +8,14 @@ use Rattle.string_set.specs.declared.Reading.{Reading}
 use Rattle.string_set.specs.declared.Reading.the-variants.{Refused, Strings}
 
 -- what `read` says of a set
-abbrev pub readingOf : Result (List (List ℕ)) → Reading
-readingOf (refused r) = Refused r
-readingOf (accepted l) = Strings (length l)
+abbrev pub setReadingOf : Result (List (List ℕ)) → Reading
+setReadingOf (refused r) = Refused r
+setReadingOf (accepted l) = Strings (length l)
 
 -- the number (SCOPE 7) of what it says, 0 for no refusal
-abbrev pub readingNumber : Reading → ℕ
-readingNumber (Refused r) = numberOf r
-readingNumber (Strings n) = 0
+abbrev pub setReadingNumber : Reading → ℕ
+setReadingNumber (Refused r) = numberOf r
+setReadingNumber (Strings n) = 0
 
 -- how many strings it says there are, none in a refused set
 abbrev pub readingCount : Reading → ℕ
@@ -28,10 +28,10 @@ placesFrom at [] = []
 placesFrom at (t ∷ l) = at ∷ placesFrom (at + 1 + length t) l
 
 -- in a set: the count byte is at 0
-abbrev pub placesOf : List (List ℕ) → List ℕ
-placesOf l = placesFrom 1 l
+abbrev pub setPlacesOf : List (List ℕ) → List ℕ
+setPlacesOf l = placesFrom 1 l
 
 -- what borrowed places hold afterwards: those of the strings and then what was there, or, where the set is refused, what was there
 abbrev pub placesAfter : Result (List (List ℕ)) → List ℕ → List ℕ
 placesAfter (refused r) ps = ps
-placesAfter (accepted l) ps = placesOf l ++ drop (length l) ps
+placesAfter (accepted l) ps = setPlacesOf l ++ drop (length l) ps

@@ -4,7 +4,7 @@ ghost use Prim.Native.Nat.{_≤_};
 ghost use lib.ListN.{length, replicate};
 ghost use Rattle.refusals.specs.Refusals.{numberIn};
 ghost use Rattle.string_set.specs.StringSet.{readSet};
-ghost use Rattle.string_set.specs.Places.{readingOf, readingNumber, readingCount, placesAfter};
+ghost use Rattle.string_set.specs.Places.{setReadingOf, setReadingNumber, readingCount, placesAfter};
 use refusals::Refusal;
 use widths::wide;
 
@@ -26,7 +26,7 @@ pub struct StringSet {
 
 // What is said of a set. Nothing is written yet, as a refusal leaves what is borrowed.
 fn judge(set: &[u8]) -> Reading
-    ensures reading { λ r. ⌜ r ≡ readingOf (readSet (now (set .entry))) ⌝ }
+    ensures reading { λ r. ⌜ r ≡ setReadingOf (readSet (now (set .entry))) ⌝ }
     ensures few { λ r. ⌜ readingCount r ≤ 255 ⌝ }
 {
     if LONGEST_FILE < set.len() {
@@ -58,7 +58,7 @@ fn judge(set: &[u8]) -> Reading
 // Puts where each of a set's n strings is. Lent as a slice, whose length a proof knows: that of an array
 // behind a reference it does not know until it is stored whole.
 fn place(set: &[u8], n: usize, places: &mut [usize])
-    requires { ⌜ (Reading.Strings n ≡ readingOf (readSet (now set))) × (n ≤ length (now places)) ⌝ }
+    requires { ⌜ (Reading.Strings n ≡ setReadingOf (readSet (now set))) × (n ≤ length (now places)) ⌝ }
     ensures { λ _. ⌜ now (places .exit) ≡ placesAfter (readSet (now (set .entry))) (now (places .entry)) ⌝ }
 {
     let mut at = 1;
@@ -73,9 +73,9 @@ fn place(set: &[u8], n: usize, places: &mut [usize])
 // Reads a lone set: how many strings there are, and into borrowed places where each is. What lies beyond
 // these stays, and so do all of them where the set is refused.
 pub fn read_places(set: &[u8], places: &mut [usize; 255]) -> Reading
-    ensures reading { λ r. ⌜ r ≡ readingOf (readSet (now (set .entry))) ⌝ }
+    ensures reading { λ r. ⌜ r ≡ setReadingOf (readSet (now (set .entry))) ⌝ }
     ensures lent { λ _. ⌜ now (places .exit) ≡ placesAfter (readSet (now (set .entry))) (now (places .entry)) ⌝ }
-    ensures number { λ r. ⌜ readingNumber r ≡ numberIn (readSet (now (set .entry))) ⌝ }
+    ensures number { λ r. ⌜ setReadingNumber r ≡ numberIn (readSet (now (set .entry))) ⌝ }
     ensures few { λ r. ⌜ readingCount r ≤ 255 ⌝ }
 {
     let reading = judge(set);
@@ -87,9 +87,9 @@ pub fn read_places(set: &[u8], places: &mut [usize; 255]) -> Reading
 
 // The same with the places in its answer.
 pub fn read(set: &[u8]) -> StringSet
-    ensures reading { λ r. ⌜ r .reading ≡ readingOf (readSet (now (set .entry))) ⌝ }
+    ensures reading { λ r. ⌜ r .reading ≡ setReadingOf (readSet (now (set .entry))) ⌝ }
     ensures places { λ r. ⌜ r .places ≡ placesAfter (readSet (now (set .entry))) (replicate 255 0) ⌝ }
-    ensures number { λ r. ⌜ readingNumber (r .reading) ≡ numberIn (readSet (now (set .entry))) ⌝ }
+    ensures number { λ r. ⌜ setReadingNumber (r .reading) ≡ numberIn (readSet (now (set .entry))) ⌝ }
     ensures few { λ r. ⌜ readingCount (r .reading) ≤ 255 ⌝ }
 {
     let mut places = [0; 255];

@@ -16,7 +16,7 @@ use Rattle.tie_rules.specs.declared.tie_rule.TieRule.{TieRule}
 use Rattle.tie_rules.specs.declared.tie_rule.TieRule.the-variants.{UlpRelative, FgbioCompat}
 use Rattle.tie_rules.specs.declared.unique_max.UniqueMax.{UniqueMax}
 use Rattle.tie_rules.specs.Lanes.{lane, noLane}
-use Rattle.tie_rules.specs.Ties.{fgbioTie, untied, newLead, cancelled, fgbioStep, ulpStep, scan, unseen, lowest, fgbioUniqueMaxIndex, uniqueMaxIndex, notMinusInfinity, uniqueMaxIndexWith}
+use Rattle.tie_rules.specs.Ties.{fgbioTie, untied, newLead, cancelled, fgbioStep, ulpStep, scan, unseen, belowAll, fgbioUniqueMaxIndex, uniqueMaxIndex, notMinusInfinity, uniqueMaxIndexWith}
 use Rattle.tie_rules.specs.UniqueMax.{laneNumber, uniqueMaxAt}
 use Rattle.tie_rules.proofs.Stands.{scan-keeps}
 
@@ -53,9 +53,9 @@ module _ (xs : List Float) where
   pub ulp-one : OneOf 4 (uniqueMaxIndex xs)
   unfolding uniqueMaxIndex
   ulp-one =
-      let r = scan ulpStep lowest xs 4 in
+      let r = scan ulpStep belowAll xs 4 in
       choice (OneOf 4) (finite (r .best) && untied UlpRelative xs (r .at) (r .best)) (r .at) noLane
-      (λ _. scan-keeps ulpStep xs Ends ulp-ends lowest (inr refl) 4) (λ _. inr refl)
+      (λ _. scan-keeps ulpStep xs Ends ulp-ends belowAll (inr refl) 4) (λ _. inr refl)
 
   pub rule-one : (rule : TieRule) → OneOf 4 (uniqueMaxIndexWith xs rule)
   unfolding uniqueMaxIndexWith notMinusInfinity

@@ -19,7 +19,7 @@ use Rattle.tie_rules.specs.declared.tie_rule.TieRule.{TieRule}
 use Rattle.tie_rules.specs.declared.tie_rule.TieRule.the-variants.{UlpRelative, FgbioCompat}
 use Rattle.tie_rules.proofs.Lanes.{below-all}
 use Rattle.tie_rules.specs.Lanes.{lane, noLane}
-use Rattle.tie_rules.specs.Ties.{fgbioTie, fgbioTested, tiesWith, untied, noneAbove, newLead, cancelled, fgbioStep, ulpStep, scan, unseen, lowest, fgbioUniqueMaxIndex, uniqueMaxIndex, notMinusInfinity, uniqueMaxIndexWith}
+use Rattle.tie_rules.specs.Ties.{fgbioTie, fgbioTested, tiesWith, untied, noneAbove, newLead, cancelled, fgbioStep, ulpStep, scan, unseen, belowAll, fgbioUniqueMaxIndex, uniqueMaxIndex, notMinusInfinity, uniqueMaxIndexWith}
 
 -- ---- a NaN, and a value above the running maximum
 
@@ -145,8 +145,8 @@ module _ (xs : List Float) where
       x : Float
       x = lane xs n
 
-  ulp-knows : UlpKnows 4 (scan ulpStep lowest xs 4)
-  ulp-knows = scan-keeps ulpStep xs UlpKnows ulp-step lowest (record { top = λ j h. absurd (omega arith); place = λ h. absurd (omega arith) }) 4
+  ulp-knows : UlpKnows 4 (scan ulpStep belowAll xs 4)
+  ulp-knows = scan-keeps ulpStep xs UlpKnows ulp-step belowAll (record { top = λ j h. absurd (omega arith); place = λ h. absurd (omega arith) }) 4
 
   -- ---- the lane that a rule names
 
@@ -174,7 +174,7 @@ module _ (xs : List Float) where
   ulp-named : uniqueMaxIndexWith xs UlpRelative < 4 → (finite (lane xs (uniqueMaxIndexWith xs UlpRelative)) ≡ true) × Stands UlpRelative (uniqueMaxIndexWith xs UlpRelative)
   unfolding uniqueMaxIndexWith uniqueMaxIndex
   ulp-named =
-      let r = scan ulpStep lowest xs 4 in
+      let r = scan ulpStep belowAll xs 4 in
       choice (λ i. i < 4 → (finite (lane xs i) ≡ true) × Stands UlpRelative i) (finite (r .best) && untied UlpRelative xs (r .at) (r .best)) (r .at) noLane
       (λ t h. ulp-stands r ulp-knows h t) (λ _ h. absurd (omega arith))
 

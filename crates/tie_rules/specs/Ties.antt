@@ -93,8 +93,8 @@ abbrev pub unseen : Scan
 unseen = record { seen = false; best = plusZero; at = noLane }
 
 -- before the first lane under UlpRelative: a maximum of -infinity
-abbrev pub lowest : Scan
-lowest = record { seen = false; best = lnZero; at = noLane }
+abbrev pub belowAll : Scan
+belowAll = record { seen = false; best = lnZero; at = noLane }
 
 -- ---- the lane that a rule names
 
@@ -105,7 +105,7 @@ fgbioUniqueMaxIndex xs = scan fgbioStep unseen xs 4 .at
 -- the lane of the maximum, if that is finite and no other lane ties with it
 unfoldable pub uniqueMaxIndex : List Float → ℕ
 uniqueMaxIndex xs =
-    let r = scan ulpStep lowest xs 4 in
+    let r = scan ulpStep belowAll xs 4 in
     if finite (r .best) && untied UlpRelative xs (r .at) (r .best) then r .at
     else noLane
 

@@ -4,7 +4,7 @@ ghost use Prim.Native.Nat.{_<_};
 ghost use mathlib.Core.Bool.{true, not, _||_};
 ghost use lib.Dec.{eqb};
 ghost use Rattle.tie_rules.specs.declared.tie_rule.TieRule.the-variants.{FgbioCompat};
-ghost use Rattle.tie_rules.specs.Ties.{ruleOf, fgbioTie, nearPatterns, ulpTie, fgbioTested, tiesWith, untied as untiedOf, fgbioStep, ulpStep, scan, unseen, lowest, uniqueMaxIndex, uniqueMaxIndexWith};
+ghost use Rattle.tie_rules.specs.Ties.{ruleOf, fgbioTie, nearPatterns, ulpTie, fgbioTested, tiesWith, untied as untiedOf, fgbioStep, ulpStep, scan, unseen, belowAll, uniqueMaxIndex, uniqueMaxIndexWith};
 use crate::lane::NO_LANE;
 use crate::lead::fgbio_lead;
 
@@ -130,7 +130,7 @@ pub fn fgbio_scan(likelihoods: [f64; 4]) -> Scan
 }
 
 fn ulp_scan(likelihoods: [f64; 4]) -> Scan
-    ensures { λ r. ⌜ r ≡ scan ulpStep lowest likelihoods 4 ⌝ }
+    ensures { λ r. ⌜ r ≡ scan ulpStep belowAll likelihoods 4 ⌝ }
 {
     let mut run = Scan {
         seen: false,

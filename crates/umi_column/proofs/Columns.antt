@@ -15,7 +15,7 @@ use Rattle.base_builder.specs.declared.builder.ConsensusBaseBuilder.{ConsensusB
 use Rattle.base_builder.specs.Builder.{resetOf, added}
 use Rattle.base_builder.specs.Calls.{callOf}
 use Rattle.base_builder.specs.History.{add, step, run}
-use Rattle.base_builder_laws.specs.GoodCalls.{isBase, isCall}
+use Rattle.base_builder_laws.specs.GoodCalls.{isCalledBase, isCall}
 use Rattle.base_builder_laws.proofs.AfterReset.{after-reset}
 use Rattle.base_builder_laws.proofs.GoodCalls.{good-calls}
 use Rattle.umi_column.specs.Dna.{isDnaBase}
@@ -54,15 +54,15 @@ kind true b c d h = refl
 kind false b true d h = refl
 kind false b false d h = absurd h
 
-call-kind : (c : Call) → T (isCall c) → (isBase (c .base) || eqb (c .base) 78) ≡ true
+call-kind : (c : Call) → T (isCall c) → (isCalledBase (c .base) || eqb (c .base) 78) ≡ true
 unfolding isCall
 call-kind c h =
     let q = c .qual .0 in
-    kind (isBase (c .base)) (leb 2 q && leb q 93) (eqb (c .base) 78) (eqb q 2) h
+    kind (isCalledBase (c .base)) (leb 2 q && leb q 93) (eqb (c .base) 78) (eqb q 2) h
 
 -- where the first byte is DNA: A, C, G, T or N, whatever the builder
 pub column-byte-kind : (pre : ℕ) (column : List ℕ) (after : ConsensusBaseBuilder) → isDnaBase (byteAt column 0) ≡ true
-    → (isBase (columnByte pre column after) || eqb (columnByte pre column after) 78) ≡ true
+    → (isCalledBase (columnByte pre column after) || eqb (columnByte pre column after) 78) ≡ true
 unfolding columnByte
 column-byte-kind pre column after d = rw d (call-kind (callOf (gapTables pre) after) (good-calls pre after .call))
 

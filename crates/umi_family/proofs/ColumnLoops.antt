@@ -16,7 +16,7 @@ use Rattle.tie_rules.specs.declared.tie_rule.TieRule.{TieRule}
 use Rattle.lane_sums.specs.declared.observation.LaneSums.{LaneSums}
 use Rattle.observation_windows.specs.Windows.{windowOf}
 use Rattle.umi_column.specs.Sums.{summedBy, summedAll}
-use Rattle.umi_rows.specs.Rows.{bytesAt, columnsAt}
+use Rattle.umi_rows.specs.Rows.{bytesAt, rowColumnsAt}
 use Rattle.umi_rows.proofs.RowLoops.{map-at, given-length, given-at}
 use Rattle.umi_rows.proofs.ColumnLoops.{filled-more, filled, columns-length, column-at}
 use Rattle.umi_family.specs.Family.{builderBy, bytesBy, byteSummed, bytesSummed, lastBy}
@@ -37,17 +37,17 @@ module _ (window : List Float) (f : ℕ → ℕ) (ps : List ℕ) (k : ℕ) (sums
 -- ---- the columns
 module _ (w : ℕ) (s ps : List ℕ) where
   -- the byte at a place by the sums of its column
-  pub summed-at : (window : List Float) (rule : TieRule) (at : ℕ) → at < w → getD (bytesSummed window rule (columnsAt w s ps)) at 0 ≡ byteSummed window rule (bytesAt at s ps)
-  summed-at window rule at h = map-at _ (columnsAt w s ps) at [] 0 (rw (columns-length w s ps) h) ∙ rw (column-at w s ps at h)
+  pub summed-at : (window : List Float) (rule : TieRule) (at : ℕ) → at < w → getD (bytesSummed window rule (rowColumnsAt w s ps)) at 0 ≡ byteSummed window rule (bytesAt at s ps)
+  summed-at window rule at h = map-at _ (rowColumnsAt w s ps) at [] 0 (rw (columns-length w s ps) h) ∙ rw (column-at w s ps at h)
 
-  pub summed-length : (window : List Float) (rule : TieRule) → length (bytesSummed window rule (columnsAt w s ps)) ≡ w
-  summed-length window rule = length-map (columnsAt w s ps) _ ∙ columns-length w s ps
+  pub summed-length : (window : List Float) (rule : TieRule) → length (bytesSummed window rule (rowColumnsAt w s ps)) ≡ w
+  summed-length window rule = length-map (rowColumnsAt w s ps) _ ∙ columns-length w s ps
 
   -- a column more
   pub column-more : (window : List Float) (rule : TieRule) (text : List ℕ) (at x : ℕ) → length text ≡ w → at < w → x ≡ byteSummed window rule (bytesAt at s ps)
-      → take at text ≡ take at (bytesSummed window rule (columnsAt w s ps)) → take (at + 1) (set text at x) ≡ take (at + 1) (bytesSummed window rule (columnsAt w s ps))
+      → take at text ≡ take at (bytesSummed window rule (rowColumnsAt w s ps)) → take (at + 1) (set text at x) ≡ take (at + 1) (bytesSummed window rule (rowColumnsAt w s ps))
   column-more window rule text at x n h e told =
-      let bytes = bytesSummed window rule (columnsAt w s ps) in
+      let bytes = bytesSummed window rule (rowColumnsAt w s ps) in
       let size : length bytes ≡ w = summed-length window rule in
       filled-more text bytes at 0 x (omega arith) (omega arith) (e ∙ sym (summed-at window rule at h)) told
 
@@ -68,19 +68,19 @@ last-listed f x column a (suc n) =
 
 module _ (e : AdjustedEntry) (b : ConsensusBaseBuilder) (s ps : List ℕ) where
   -- the bytes by the sums are those by the builder
-  summed-bytes : (w : ℕ) → length ps ≤ 255 → bytesSummed (windowOf (e .correct) (e .«error_per_alt»)) (b .«tie_rule») (columnsAt w s ps) ≡ bytesBy e b (columnsAt w s ps)
-  unfolding columnsAt
+  summed-bytes : (w : ℕ) → length ps ≤ 255 → bytesSummed (windowOf (e .correct) (e .«error_per_alt»)) (b .«tie_rule») (rowColumnsAt w s ps) ≡ bytesBy e b (rowColumnsAt w s ps)
+  unfolding rowColumnsAt
   summed-bytes w h =
       map-listed _ _ (λ k. bytesAt k s ps) 0 w
       (λ k. sums-byte (e .correct) (e .«error_per_alt») (bytesAt k s ps) b (byteAt (bytesAt k s ps) 0) (rw (given-length (λ p. byteAt s (p + 1 + k)) ps) (omega arith)))
 
-  pub no-columns : (text : List ℕ) → length text ≡ 0 → (text ≡ bytesBy e b (columnsAt (length text) s ps)) × (b ≡ lastBy e b (columnsAt (length text) s ps))
-  unfolding columnsAt listed
+  pub no-columns : (text : List ℕ) → length text ≡ 0 → (text ≡ bytesBy e b (rowColumnsAt (length text) s ps)) × (b ≡ lastBy e b (rowColumnsAt (length text) s ps))
+  unfolding rowColumnsAt listed
   no-columns [] h = (refl, refl)
   no-columns (x ∷ xs) h = absurd (omega arith)
 
-  last-by : (w : ℕ) → 0 < w → lastBy e b (columnsAt w s ps) ≡ builderBy e b (bytesAt (w - 1) s ps)
-  unfolding columnsAt
+  last-by : (w : ℕ) → 0 < w → lastBy e b (rowColumnsAt w s ps) ≡ builderBy e b (bytesAt (w - 1) s ps)
+  unfolding rowColumnsAt
   last-by w h =
       let one : w ≡ suc (w - 1) = omega arith in
       let end : 0 + (w - 1) ≡ w - 1 = omega arith in
@@ -89,11 +89,11 @@ module _ (e : AdjustedEntry) (b : ConsensusBaseBuilder) (s ps : List ℕ) where
 
   -- the last column, after the others
   pub last-column : (w : ℕ) → 0 < w → length ps ≤ 255 → (text : List ℕ) → length text ≡ w
-      → take (w - 1) text ≡ take (w - 1) (bytesSummed (windowOf (e .correct) (e .«error_per_alt»)) (b .«tie_rule») (columnsAt w s ps))
+      → take (w - 1) text ≡ take (w - 1) (bytesSummed (windowOf (e .correct) (e .«error_per_alt»)) (b .«tie_rule») (rowColumnsAt w s ps))
       → (after : ConsensusBaseBuilder) → after ≡ builderBy e b (bytesAt (w - 1) s ps) → (x : ℕ) → x ≡ namedByte after (byteAt (bytesAt (w - 1) s ps) 0)
-      → (set text (w - 1) x ≡ bytesBy e b (columnsAt w s ps)) × (after ≡ lastBy e b (columnsAt w s ps))
+      → (set text (w - 1) x ≡ bytesBy e b (rowColumnsAt w s ps)) × (after ≡ lastBy e b (rowColumnsAt w s ps))
   last-column w h most text n told after f x g =
-      let columns = columnsAt w s ps in
+      let columns = rowColumnsAt w s ps in
       let bytes = bytesBy e b columns in
       let size : length bytes ≡ w = length-map columns _ ∙ columns-length w s ps in
       let many : length columns ≡ w = columns-length w s ps in

@@ -17,7 +17,7 @@ use Rattle.lent_bytes.proofs.Lists.{bytes-from}
 use Rattle.tie_rules.specs.Lanes.{laneOfByte}
 use Rattle.umi_count_laws.specs.Counts.{timesObserved}
 use Rattle.umi_rows.specs.Rows.{bytesAt}
-use Rattle.umi_family.specs.Counts.{hitBy, oneIn, Room, Counted, CountsOf}
+use Rattle.umi_family.specs.Counts.{hitBy, oneIn, CountsRoom, Counted, CountsOf}
 use Rattle.umi_rows.proofs.RowLoops.{given-length, given-at, row-lent}
 
 -- ---- the two letters of each lane, computed at all 256 bytes
@@ -47,7 +47,7 @@ module _ (i : ℕ) (row before : List ℕ) where
   pub passed-none : Passed i row 0 before before
   passed-none = (refl, (λ k h. absurd (not-suc-le-zero h)), (λ k h. refl))
 
-  module _ (n : ℕ) (after : List ℕ) (p : Passed i row n before after) (h : n < length row) (room : Room (length row) before) where
+  module _ (n : ℕ) (after : List ℕ) (p : Passed i row n before after) (h : n < length row) (room : CountsRoom (length row) before) where
     pub passed-room : (one : ℕ) → one ≤ 1 → byteAt after n + one < 256
     passed-room one m = omega (arith, room .1 n h, p .2 n (omega arith))
 
@@ -100,7 +100,7 @@ module _ (i w : ℕ) (s ps : List ℕ) where
       (one-more (eqb (laneOfByte (byteAt s (byteAt ps k + 1 + j))) i) (timesObserved i (drop (k + 1) (bytesAt j s ps))))
 
   module _ (k : ℕ) (before : List ℕ) (d : Done k before) where
-    pub done-room : w ≤ 255 → k < 255 → Room w before
+    pub done-room : w ≤ 255 → k < 255 → CountsRoom w before
     done-room m h = (omega (arith, d .0), λ j l. omega (arith, d .1 j l .0))
 
     pub done-more : k < length ps → (row : List ℕ) → row ≡ take w (drop (byteAt ps k + 1) s) → length row ≡ w → (after : List ℕ) → Counted i row before after → Done (k + 1) after

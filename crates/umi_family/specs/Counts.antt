@@ -25,8 +25,8 @@ oneIn i x =
     else 0
 
 -- one more can be counted at each of w places
-abbrev pub Room : ℕ → List ℕ → Type 0
-Room w counts = (w ≤ length counts) × ((k : ℕ) → k < w → byteAt counts k < 255)
+abbrev pub CountsRoom : ℕ → List ℕ → Type 0
+CountsRoom w counts = (w ≤ length counts) × ((k : ℕ) → k < w → byteAt counts k < 255)
 
 -- at each place of a string that has a byte of lane i one more is counted
 abbrev pub Counted : ℕ → List ℕ → List ℕ → List ℕ → Type 0

@@ -13,7 +13,7 @@ use Rattle.base_builder.specs.Builder.{resetOf}
 use Rattle.umi_column.specs.Calls.{addedAll, namedByte}
 use Rattle.umi_column.specs.Sums.{noSums, summedAll, byteBy}
 use Rattle.umi_family.specs.declared.calls.Called.{Called}
-use Rattle.umi_rows.specs.Rows.{fitting, rowsAt, columnsAt, differsFrom}
+use Rattle.umi_rows.specs.Rows.{fitting, rowsAt, rowColumnsAt, differsFrom}
 
 -- the builder after a column, from one after a reset
 abbrev pub builderBy : AdjustedEntry → ConsensusBaseBuilder → List ℕ → ConsensusBaseBuilder
@@ -38,7 +38,7 @@ lastBy e b columns = lastOr b (map (builderBy e b) columns)
 -- the text afterwards: a byte for each column of strings that lie in the set. For others it is free: here it is left as it was
 unfoldable pub textAt : AdjustedEntry → ConsensusBaseBuilder → List ℕ → List ℕ → List ℕ → List ℕ
 textAt e b s ps text =
-    if fitting (length text) s ps then bytesBy e b (columnsAt (length text) s ps)
+    if fitting (length text) s ps then bytesBy e b (rowColumnsAt (length text) s ps)
     else text
 
 -- whether one of them differs from it, and the builder after the last column. For others both are free: here false, and the builder as it was
@@ -47,6 +47,6 @@ calledAt e b s ps text =
     if fitting (length text) s ps then
     record {
       «had_errors» = any (differsFrom (textAt e b s ps text)) (rowsAt (length text) s ps);
-      builder = lastBy e b (columnsAt (length text) s ps);
+      builder = lastBy e b (rowColumnsAt (length text) s ps);
     }
     else record { «had_errors» = false; builder = b }

@@ -2,7 +2,7 @@
 ghost use mathlib.Core.Path.{_≡_};
 ghost use Prim.Native.Nat.{_+_, _-_};
 ghost use lib.ListN.{length, take};
-ghost use Rattle.umi_rows.specs.Rows.{Fits, bytesAt, columnsAt};
+ghost use Rattle.umi_rows.specs.Rows.{RowsFit, bytesAt, rowColumnsAt};
 ghost use Rattle.umi_family.specs.Family.{byteSummed, bytesSummed};
 use tie_rules::TieRule;
 use umi_column::add_base;
@@ -17,7 +17,7 @@ pub(crate) fn summed_byte(
     places: &[usize],
     at: usize,
 ) -> u8
-    requires { ⌜ Fits (at + 1) (now set) (now places) ⌝ }
+    requires { ⌜ RowsFit (at + 1) (now set) (now places) ⌝ }
     ensures { λ r. ⌜ r ≡ byteSummed (now (window .entry)) rule (bytesAt at (now (set .entry)) (now (places .entry))) ⌝ }
 {
     let mut sums = no_sums();
@@ -37,8 +37,8 @@ pub(crate) fn call_summed(
     places: &[usize],
     text: &mut [u8],
 )
-    requires { ⌜ Fits (length (now text)) (now set) (now places) ⌝ }
-    ensures { λ _. ⌜ take (length (now (text .entry)) - 1) (now (text .exit)) ≡ take (length (now (text .entry)) - 1) (bytesSummed (now (window .entry)) rule (columnsAt (length (now (text .entry))) (now (set .entry)) (now (places .entry)))) ⌝ }
+    requires { ⌜ RowsFit (length (now text)) (now set) (now places) ⌝ }
+    ensures { λ _. ⌜ take (length (now (text .entry)) - 1) (now (text .exit)) ≡ take (length (now (text .entry)) - 1) (bytesSummed (now (window .entry)) rule (rowColumnsAt (length (now (text .entry))) (now (set .entry)) (now (places .entry)))) ⌝ }
 {
     let mut at = 0;
     while at + 1 < text.len() {

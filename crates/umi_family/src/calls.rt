@@ -2,7 +2,7 @@
 ghost use mathlib.Core.Path.{_≡_};
 ghost use lib.ListN.{length};
 ghost use Rattle.words.specs.Lists.{any};
-ghost use Rattle.umi_rows.specs.Rows.{Fits, rowsAt, differsFrom};
+ghost use Rattle.umi_rows.specs.Rows.{RowsFit, rowsAt, differsFrom};
 ghost use Rattle.umi_family.specs.Family.{textAt, calledAt};
 use crate::columns::call_columns;
 use base_builder::ConsensusBaseBuilder;
@@ -18,7 +18,7 @@ pub struct Called {
 
 // Whether a string differs from a text of its width.
 fn any_differs(set: &[u8], places: &[usize], text: &[u8]) -> bool
-    requires { ⌜ Fits (length (now text)) (now set) (now places) ⌝ }
+    requires { ⌜ RowsFit (length (now text)) (now set) (now places) ⌝ }
     ensures { λ r. ⌜ r ≡ any (differsFrom (now (text .entry))) (rowsAt (length (now (text .entry))) (now (set .entry)) (now (places .entry))) ⌝ }
 {
     let mut k = 0;

@@ -3,7 +3,7 @@ ghost use mathlib.Core.Path.{_≡_};
 ghost use Prim.Native.Nat.{_-_};
 ghost use lib.ListN.{length, take};
 ghost use Rattle.observation_windows.specs.Windows.{windowOf};
-ghost use Rattle.umi_rows.specs.Rows.{Fits, columnsAt};
+ghost use Rattle.umi_rows.specs.Rows.{RowsFit, rowColumnsAt};
 ghost use Rattle.umi_family.specs.Family.{bytesBy, bytesSummed, lastBy};
 use crate::by_sums::call_summed;
 use crate::counts::counts_decide;
@@ -26,8 +26,8 @@ fn call_others(
     places: &[usize],
     text: &mut [u8],
 )
-    requires { ⌜ Fits (length (now text)) (now set) (now places) ⌝ }
-    ensures { λ _. ⌜ take (length (now (text .entry)) - 1) (now (text .exit)) ≡ take (length (now (text .entry)) - 1) (bytesSummed (windowOf correct «error_per_alt») rule (columnsAt (length (now (text .entry))) (now (set .entry)) (now (places .entry)))) ⌝ }
+    requires { ⌜ RowsFit (length (now text)) (now set) (now places) ⌝ }
+    ensures { λ _. ⌜ take (length (now (text .entry)) - 1) (now (text .exit)) ≡ take (length (now (text .entry)) - 1) (bytesSummed (windowOf correct «error_per_alt») rule (rowColumnsAt (length (now (text .entry))) (now (set .entry)) (now (places .entry)))) ⌝ }
 {
     let window = window_of(correct, error_per_alt);
     if text.len() <= 255 {
@@ -47,9 +47,9 @@ pub(crate) fn call_columns(
     places: &[usize],
     text: &mut [u8],
 ) -> ConsensusBaseBuilder
-    requires { ⌜ Fits (length (now text)) (now set) (now places) ⌝ }
-    ensures text { λ _. ⌜ now (text .exit) ≡ bytesBy entry builder (columnsAt (length (now (text .entry))) (now (set .entry)) (now (places .entry))) ⌝ }
-    ensures builder { λ r. ⌜ r ≡ lastBy entry builder (columnsAt (length (now (text .entry))) (now (set .entry)) (now (places .entry))) ⌝ }
+    requires { ⌜ RowsFit (length (now text)) (now set) (now places) ⌝ }
+    ensures text { λ _. ⌜ now (text .exit) ≡ bytesBy entry builder (rowColumnsAt (length (now (text .entry))) (now (set .entry)) (now (places .entry))) ⌝ }
+    ensures builder { λ r. ⌜ r ≡ lastBy entry builder (rowColumnsAt (length (now (text .entry))) (now (set .entry)) (now (places .entry))) ⌝ }
 {
     if text.len() == 0 {
         return builder;

@@ -6,7 +6,7 @@ ghost use Prim.Native.Nat.{_≤_, _<_};
 ghost use lib.ListN.{length};
 ghost use Rattle.tie_rules.specs.declared.tie_rule.TieRule.the-variants.{FgbioCompat};
 ghost use Rattle.umi_count_laws.specs.Counts.{logarithmsApart};
-ghost use Rattle.umi_family.specs.Counts.{hitBy, Room, Counted, Above};
+ghost use Rattle.umi_family.specs.Counts.{hitBy, CountsRoom, Counted, Above};
 use tie_rules::NO_LANE;
 use tie_rules::TieRule;
 
@@ -43,7 +43,7 @@ pub(crate) fn count_row(
     g: &mut [u8; 255],
     t: &mut [u8; 255],
 )
-    requires { ⌜ (length (now row) ≤ 255) × Room (length (now row)) (now a) × Room (length (now row)) (now c) × Room (length (now row)) (now g) × Room (length (now row)) (now t) ⌝ }
+    requires { ⌜ (length (now row) ≤ 255) × CountsRoom (length (now row)) (now a) × CountsRoom (length (now row)) (now c) × CountsRoom (length (now row)) (now g) × CountsRoom (length (now row)) (now t) ⌝ }
     ensures a { λ _. ⌜ Counted 0 (now (row .entry)) (now (a .entry)) (now (a .exit)) ⌝ }
     ensures c { λ _. ⌜ Counted 1 (now (row .entry)) (now (c .entry)) (now (c .exit)) ⌝ }
     ensures g { λ _. ⌜ Counted 2 (now (row .entry)) (now (g .entry)) (now (g .exit)) ⌝ }

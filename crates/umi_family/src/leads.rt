@@ -6,7 +6,7 @@ ghost use Rattle.tie_rules.specs.declared.tie_rule.TieRule.the-variants.{FgbioC
 ghost use Rattle.tie_rules.specs.Ties.{uniqueMaxIndexWith};
 ghost use Rattle.umi_column.specs.Sums.{noSums, summedAll};
 ghost use Rattle.umi_count_laws.specs.Named.{Faithful};
-ghost use Rattle.umi_rows.specs.Rows.{Fits, bytesAt, columnsAt};
+ghost use Rattle.umi_rows.specs.Rows.{RowsFit, bytesAt, rowColumnsAt};
 ghost use Rattle.umi_family.specs.Counts.{CountsOf};
 ghost use Rattle.umi_family.specs.Family.{byteSummed, bytesSummed};
 use crate::by_sums::summed_byte;
@@ -18,7 +18,7 @@ use umi_column::is_dna_base;
 
 // The byte of a column that a lane leads. Where none does, it is summed.
 fn led_byte(lead: usize, window: &[f64; 8], set: &[u8], places: &[usize], at: usize) -> u8
-    requires { ⌜ Fits (at + 1) (now set) (now places) × (lead < 4 → uniqueMaxIndexWith (summedAll (now window) (bytesAt at (now set) (now places)) noSums .likelihoods) FgbioCompat ≡ lead) ⌝ }
+    requires { ⌜ RowsFit (at + 1) (now set) (now places) × (lead < 4 → uniqueMaxIndexWith (summedAll (now window) (bytesAt at (now set) (now places)) noSums .likelihoods) FgbioCompat ≡ lead) ⌝ }
     ensures { λ r. ⌜ r ≡ byteSummed (now (window .entry)) FgbioCompat (bytesAt at (now (set .entry)) (now (places .entry))) ⌝ }
 {
     let first = set[places[0] + 1 + at];
@@ -42,8 +42,8 @@ fn call_leads(
     t: &[u8; 255],
     text: &mut [u8],
 )
-    requires { ⌜ Faithful (now window) × Fits (length (now text)) (now set) (now places) × (length (now text) ≤ 255) × CountsOf 0 (length (now text)) (now set) (now places) (now a) × CountsOf 1 (length (now text)) (now set) (now places) (now c) × CountsOf 2 (length (now text)) (now set) (now places) (now g) × CountsOf 3 (length (now text)) (now set) (now places) (now t) ⌝ }
-    ensures { λ _. ⌜ take (length (now (text .entry)) - 1) (now (text .exit)) ≡ take (length (now (text .entry)) - 1) (bytesSummed (now (window .entry)) FgbioCompat (columnsAt (length (now (text .entry))) (now (set .entry)) (now (places .entry)))) ⌝ }
+    requires { ⌜ Faithful (now window) × RowsFit (length (now text)) (now set) (now places) × (length (now text) ≤ 255) × CountsOf 0 (length (now text)) (now set) (now places) (now a) × CountsOf 1 (length (now text)) (now set) (now places) (now c) × CountsOf 2 (length (now text)) (now set) (now places) (now g) × CountsOf 3 (length (now text)) (now set) (now places) (now t) ⌝ }
+    ensures { λ _. ⌜ take (length (now (text .entry)) - 1) (now (text .exit)) ≡ take (length (now (text .entry)) - 1) (bytesSummed (now (window .entry)) FgbioCompat (rowColumnsAt (length (now (text .entry))) (now (set .entry)) (now (places .entry)))) ⌝ }
 {
     let mut at = 0;
     while at + 1 < text.len() {
@@ -55,8 +55,8 @@ fn call_leads(
 
 // The same, with the counts: string by string, since their bytes lie side by side.
 pub(crate) fn call_counted(window: &[f64; 8], set: &[u8], places: &[usize], text: &mut [u8])
-    requires { ⌜ Faithful (now window) × Fits (length (now text)) (now set) (now places) × (length (now text) ≤ 255) ⌝ }
-    ensures { λ _. ⌜ take (length (now (text .entry)) - 1) (now (text .exit)) ≡ take (length (now (text .entry)) - 1) (bytesSummed (now (window .entry)) FgbioCompat (columnsAt (length (now (text .entry))) (now (set .entry)) (now (places .entry)))) ⌝ }
+    requires { ⌜ Faithful (now window) × RowsFit (length (now text)) (now set) (now places) × (length (now text) ≤ 255) ⌝ }
+    ensures { λ _. ⌜ take (length (now (text .entry)) - 1) (now (text .exit)) ≡ take (length (now (text .entry)) - 1) (bytesSummed (now (window .entry)) FgbioCompat (rowColumnsAt (length (now (text .entry))) (now (set .entry)) (now (places .entry)))) ⌝ }
 {
     let mut a = [0u8; 255];
     let mut c = [0u8; 255];

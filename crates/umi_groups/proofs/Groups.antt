@@ -19,7 +19,7 @@ use Rattle.refusals.specs.declared.Verdict.the-variants.{Sound, Refused}
 use Rattle.refusals.specs.Result.{Result, refused, accepted, judged, andThen}
 use Rattle.rate_tables.specs.declared.adjusted.AdjustedEntry.{AdjustedEntry}
 use Rattle.base_builder.specs.declared.builder.ConsensusBaseBuilder.{ConsensusBaseBuilder}
-use Rattle.umi_rows.specs.Rows.{Fits, fitting, bytesAt, columnsAt}
+use Rattle.umi_rows.specs.Rows.{RowsFit, fitting, bytesAt, rowColumnsAt}
 use Rattle.umi_rows.proofs.RowLoops.{fits, fit-so}
 use Rattle.umi_verdicts.specs.FamilyVerdicts.{verdictAt}
 use Rattle.umi_family.specs.declared.calls.Called.{Called}
@@ -52,9 +52,9 @@ none-written out = rw (le-leb 0 (length out) (omega arith))
 
 -- ---- a family
 module _ (e : AdjustedEntry) (b : ConsensusBaseBuilder) (w : ℕ) (s ps : List ℕ) where
-  text-length : length (bytesBy e b (columnsAt w s ps)) ≡ w
-  unfolding columnsAt
-  text-length = length-map (columnsAt w s ps) _ ∙ listed-length (λ k. bytesAt k s ps) 0 w
+  text-length : length (bytesBy e b (rowColumnsAt w s ps)) ≡ w
+  unfolding rowColumnsAt
+  text-length = length-map (rowColumnsAt w s ps) _ ∙ listed-length (λ k. bytesAt k s ps) 0 w
 
   module _ (out : List ℕ) where
     pub family-refused : (r : Refusal) → verdictAt w s ps ≡ Refused r → andThen (familyAt e b w s ps) (roomFor out) ≡ refused r
@@ -73,7 +73,7 @@ module _ (e : AdjustedEntry) (b : ConsensusBaseBuilder) (w : ℕ) (s ps : List �
       unfolding familyAt calledAt textAt written
       family-given h called f after g =
           let size : length (take w out) ≡ w = length-take-le w out h in
-          let text : after ≡ bytesBy e b (columnsAt w s ps) = rw (size, sound-fits w s ps v) at g in
+          let text : after ≡ bytesBy e b (rowColumnsAt w s ps) = rw (size, sound-fits w s ps v) at g in
           let long : w ≡ length after = sym (ap (λ (l : List ℕ). length l) text ∙ text-length) in
           (rw (f, text, size, sound-fits w s ps v, v) (room-enough out _ (rw text-length h)), (long, rw (le-leb (length after) (length out) (omega arith), ← long)))
 

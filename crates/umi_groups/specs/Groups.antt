@@ -12,7 +12,7 @@ use Rattle.refusals.specs.Result.{Result, refused, accepted, judged}
 use Rattle.rate_tables.specs.declared.adjusted.AdjustedEntry.{AdjustedEntry}
 use Rattle.rate_tables.specs.Adjusted.{adjustedTables}
 use Rattle.base_builder.specs.declared.builder.ConsensusBaseBuilder.{ConsensusBaseBuilder}
-use Rattle.umi_rows.specs.Rows.{fitting, rowsAt, columnsAt, differsFrom}
+use Rattle.umi_rows.specs.Rows.{fitting, rowsAt, rowColumnsAt, differsFrom}
 use Rattle.umi_verdicts.specs.FamilyVerdicts.{verdictAt}
 use Rattle.umi_family.specs.Family.{bytesBy, lastBy}
 use Rattle.umi_groups.specs.Found.{Found, foundBy}
@@ -32,8 +32,8 @@ entryAt post q =
 -- of a family of this width
 unfoldable pub familyAt : AdjustedEntry → ConsensusBaseBuilder → ℕ → List ℕ → List ℕ → Result Found
 familyAt e b w s ps =
-    let text = bytesBy e b (columnsAt w s ps) in
-    judged (verdictAt w s ps) (foundBy text (any (differsFrom text) (rowsAt w s ps)) (lastBy e b (columnsAt w s ps)))
+    let text = bytesBy e b (rowColumnsAt w s ps) in
+    judged (verdictAt w s ps) (foundBy text (any (differsFrom text) (rowsAt w s ps)) (lastBy e b (rowColumnsAt w s ps)))
 
 -- the first string alone. One that does not lie in the set is refused by 2, which is free, as SCOPE 4 has no such list
 unfoldable pub firstAt : ConsensusBaseBuilder → Bool → ℕ → List ℕ → List ℕ → Result Found

@@ -13,7 +13,7 @@ use lib.Seq.{take-suc, take-suc-set, take-take, take-all, length-take-le, getD-t
 use Rattle.words.proofs.Cases.{test}
 use Rattle.words.specs.Lists.{byteAt, listed}
 use Rattle.words.proofs.Listed.{listed-length, level-at}
-use Rattle.umi_rows.specs.Rows.{bytesAt, gatheredAt, columnsAt}
+use Rattle.umi_rows.specs.Rows.{bytesAt, gatheredAt, rowColumnsAt}
 use Rattle.umi_rows.proofs.RowLoops.{given-length, given-at}
 
 -- ---- a list filled place by place with what another holds
@@ -32,12 +32,12 @@ pub first-byte : (s ps : List ℕ) (at : ℕ) → 0 < length ps → byteAt (byte
 first-byte s ps at h = given-at _ ps 0 0 h
 
 module _ (w : ℕ) (s ps : List ℕ) where
-  pub columns-length : length (columnsAt w s ps) ≡ w
-  unfolding columnsAt
+  pub columns-length : length (rowColumnsAt w s ps) ≡ w
+  unfolding rowColumnsAt
   columns-length = listed-length (λ k. bytesAt k s ps) 0 w
 
-  pub column-at : (at : ℕ) → at < w → getD (columnsAt w s ps) at [] ≡ bytesAt at s ps
-  unfolding columnsAt
+  pub column-at : (at : ℕ) → at < w → getD (rowColumnsAt w s ps) at [] ≡ bytesAt at s ps
+  unfolding rowColumnsAt
   column-at at h = level-at (λ k. bytesAt k s ps) [] w at h
 
 -- ---- a column gathered byte by byte

@@ -11,7 +11,7 @@ use lib.ListN.{length, take, drop, getD, length-map}
 use Rattle.words.proofs.Cases.{both}
 use Rattle.words.specs.Lists.{any, every, byteAt}
 use Rattle.words.proofs.Tests.{any-more, any-found, any-none, every-more, every-failed, every-done}
-use Rattle.umi_rows.specs.Rows.{fitting, Fits}
+use Rattle.umi_rows.specs.Rows.{fitting, RowsFit}
 
 -- ---- places after which w bytes follow
 pub every-at : (f : ℕ → Bool) (ps : List ℕ) (k : ℕ) → every f ps ≡ true → k < length ps → f (byteAt ps k) ≡ true
@@ -27,7 +27,7 @@ module _ (w : ℕ) (s ps : List ℕ) where
   abbrev follow : ℕ → Bool
   follow p = leb (p + 1 + w) (length s)
 
-  pub fits : fitting w s ps ≡ true → Fits w s ps
+  pub fits : fitting w s ps ≡ true → RowsFit w s ps
   unfolding fitting
   fits h =
       let t = both (ltb 0 (length ps) && leb (length ps) 255) (every follow ps) h in
@@ -35,7 +35,7 @@ module _ (w : ℕ) (s ps : List ℕ) where
       (ltb-true _ _ (n .0), leb-true _ _ (n .1), λ k l. leb-true _ _ (every-at follow ps k (t .1) l))
 
   -- and the other way
-  pub fit-so : Fits w s ps → fitting w s ps ≡ true
+  pub fit-so : RowsFit w s ps → fitting w s ps ≡ true
   unfolding fitting
   fit-so f = rw (lt-ltb 0 (length ps) (f .0), le-leb (length ps) 255 (f .1)) (every-so follow ps (λ k l. le-leb _ _ (f .2 k l)))
 
@@ -52,7 +52,7 @@ module _ (w : ℕ) (s ps : List ℕ) where
   each-fits h k b e = rw (lt-ltb 0 (length ps) h, le-leb (length ps) 255 k) e
 
 -- fewer bytes follow too
-pub fits-less : (v w : ℕ) (s ps : List ℕ) → v ≤ w → Fits w s ps → Fits v s ps
+pub fits-less : (v w : ℕ) (s ps : List ℕ) → v ≤ w → RowsFit w s ps → RowsFit v s ps
 fits-less v w s ps h fit = (fit .0, fit .1, (λ k l. omega (arith, fit .2 k l)))
 
 -- ---- what a rule gives of each place

@@ -11,8 +11,8 @@ unfoldable pub fitting : ℕ → List ℕ → List ℕ → Bool
 fitting w s ps = ltb 0 (length ps) && leb (length ps) 255 && every (λ p. leb (p + 1 + w) (length s)) ps
 
 -- the same as a claim
-abbrev pub Fits : ℕ → List ℕ → List ℕ → Type 0
-Fits w s ps = (0 < length ps) × (length ps ≤ 255) × ((k : ℕ) → k < length ps → byteAt ps k + 1 + w ≤ length s)
+abbrev pub RowsFit : ℕ → List ℕ → List ℕ → Type 0
+RowsFit w s ps = (0 < length ps) × (length ps ≤ 255) × ((k : ℕ) → k < length ps → byteAt ps k + 1 + w ≤ length s)
 
 -- w bytes after each place
 abbrev pub rowsAt : ℕ → List ℕ → List ℕ → List (List ℕ)
@@ -27,8 +27,8 @@ unfoldable pub gatheredAt : ℕ → List ℕ → List ℕ → List ℕ
 gatheredAt k s ps = listed (byteAt (bytesAt k s ps)) 0 255
 
 -- the columns
-unfoldable pub columnsAt : ℕ → List ℕ → List ℕ → List (List ℕ)
-columnsAt w s ps = listed (λ k. bytesAt k s ps) 0 w
+unfoldable pub rowColumnsAt : ℕ → List ℕ → List ℕ → List (List ℕ)
+rowColumnsAt w s ps = listed (λ k. bytesAt k s ps) 0 w
 
 -- a byte of 128 or more
 abbrev pub isHigh : ℕ → Bool

@@ -19,7 +19,7 @@ use Rattle.words.specs.Lists.{listed}
 use Rattle.umi_column.specs.Dna.{toAsciiUppercase, isDnaBase}
 use Rattle.umi_column.specs.Verdicts.{isUnlike, verdictOf}
 use Rattle.umi_column.proofs.ColumnVerdicts.{first-dna-sound, no-dna-sound}
-use Rattle.umi_rows.specs.Rows.{Fits, rowsAt, bytesAt, columnsAt, isHigh}
+use Rattle.umi_rows.specs.Rows.{RowsFit, rowsAt, bytesAt, rowColumnsAt, isHigh}
 use Rattle.umi_rows.proofs.RowLoops.{given-at}
 use Rattle.umi_verdicts.specs.Likeness.{isLike, likeRow}
 use Rattle.umi_verdicts.specs.FamilyVerdicts.{verdictWithin}
@@ -105,9 +105,9 @@ module _ (w : ℕ) (s : List ℕ) where
         let here = like-at (row q) (row p) k (t .0) (rw first-length h) in
         rw (rw (row-at q k h, row-at p k h) at here) (bytes-like ps (t .1))
 
-  pub like-sound : (ps : List ℕ) → Fits w s ps → any isHigh (row (byteAt ps 0)) ≡ false → every (likeRow (row (byteAt ps 0))) (rowsAt w s ps) ≡ true
+  pub like-sound : (ps : List ℕ) → RowsFit w s ps → any isHigh (row (byteAt ps 0)) ≡ false → every (likeRow (row (byteAt ps 0))) (rowsAt w s ps) ≡ true
       → verdictWithin w s ps ≡ Sound
-  unfolding verdictWithin columnsAt
+  unfolding verdictWithin rowColumnsAt
   like-sound ps fit low l =
       let q = byteAt ps 0 in
       let sound : (k : ℕ) → k < w → verdictOf (bytesAt k s ps) ≡ Sound =

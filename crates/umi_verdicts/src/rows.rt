@@ -3,7 +3,7 @@ ghost use mathlib.Core.Path.{_≡_};
 ghost use Prim.Native.Nat.{_+_};
 ghost use lib.ListN.{take, drop};
 ghost use Rattle.words.specs.Lists.{any, every, byteAt};
-ghost use Rattle.umi_rows.specs.Rows.{Fits, rowsAt, isHigh};
+ghost use Rattle.umi_rows.specs.Rows.{RowsFit, rowsAt, isHigh};
 ghost use Rattle.umi_verdicts.specs.Likeness.{likeRow};
 use umi_column::is_dna_base;
 
@@ -22,7 +22,7 @@ pub(crate) fn high_in(bytes: &[u8]) -> bool
 
 // Whether a string has a byte of 128 or more.
 pub(crate) fn any_high(set: &[u8], places: &[usize], width: usize) -> bool
-    requires { ⌜ Fits width (now set) (now places) ⌝ }
+    requires { ⌜ RowsFit width (now set) (now places) ⌝ }
     ensures { λ r. ⌜ r ≡ any (any isHigh) (rowsAt width (now (set .entry)) (now (places .entry))) ⌝ }
 {
     let mut k = 0;
@@ -57,7 +57,7 @@ fn like_row(first: &[u8], row: &[u8]) -> bool
 
 // Whether each string is so.
 pub(crate) fn rows_like(set: &[u8], places: &[usize], width: usize) -> bool
-    requires { ⌜ Fits width (now set) (now places) ⌝ }
+    requires { ⌜ RowsFit width (now set) (now places) ⌝ }
     ensures { λ r. ⌜ r ≡ every (likeRow (take width (drop (byteAt (now (places .entry)) 0 + 1) (now (set .entry))))) (rowsAt width (now (set .entry)) (now (places .entry))) ⌝ }
 {
     let from = places[0] + 1;

@@ -5,7 +5,7 @@ ghost use Rattle.refusals.specs.declared.Verdict.the-variants.{Sound};
 ghost use Rattle.refusals.specs.Refusals.{verdictNumber};
 ghost use Rattle.refusals.specs.Result.{firstRefused};
 ghost use Rattle.umi_column.specs.Verdicts.{verdictOf};
-ghost use Rattle.umi_rows.specs.Rows.{Fits, columnsAt};
+ghost use Rattle.umi_rows.specs.Rows.{RowsFit, rowColumnsAt};
 ghost use Rattle.umi_verdicts.specs.FamilyVerdicts.{verdictWithin, verdictAt, verdictNumberAt};
 use crate::rows::any_high;
 use crate::rows::high_in;
@@ -18,7 +18,7 @@ use umi_rows::gather;
 
 // Whether the strings one by one show nothing to refuse: only else are the columns looked at.
 fn looks_sound(set: &[u8], places: &[usize], width: usize) -> bool
-    requires { ⌜ Fits width (now set) (now places) ⌝ }
+    requires { ⌜ RowsFit width (now set) (now places) ⌝ }
     ensures { λ r. ⌜ (r ≡ true → verdictWithin width (now (set .entry)) (now (places .entry)) ≡ Sound) ⌝ }
 {
     let from = places[0] + 1;
@@ -31,8 +31,8 @@ fn looks_sound(set: &[u8], places: &[usize], width: usize) -> bool
 
 // What is refused in the first faulty column.
 fn columns_verdict(set: &[u8], places: &[usize], width: usize) -> Verdict
-    requires { ⌜ Fits width (now set) (now places) ⌝ }
-    ensures { λ r. ⌜ r ≡ firstRefused verdictOf (columnsAt width (now (set .entry)) (now (places .entry))) ⌝ }
+    requires { ⌜ RowsFit width (now set) (now places) ⌝ }
+    ensures { λ r. ⌜ r ≡ firstRefused verdictOf (rowColumnsAt width (now (set .entry)) (now (places .entry))) ⌝ }
 {
     let mut at = 0;
     while at < width {

@@ -4,7 +4,7 @@ use Prim.Native.Nat.{_-_, _≤_}
 use native.Mathlib.Omega.{arith}
 use borrow.Author.Needs.{needs}
 use lib.ListN.{length}
-use Rattle.string_set.specs.Places.{readingOf}
+use Rattle.string_set.specs.Places.{setReadingOf}
 use Rattle.string_set.proofs.Strings.{Passed, passed-none, passed-more, passed-cut, passed-all, too-long, no-count, cut-off, left-over, all-read}
 use Rattle.string_set.proofs.judge.Statement.{statement}
 use Rattle.string_set.proofs.judge.Tie as tie
@@ -16,10 +16,10 @@ abbrev μ-loop : tie.MeasureT-loop
 μ-loop set n at₀ k₀ at k = n - k
 
 returns : tie.Need-returns Inv-loop μ-loop
-returns c = (sym (ap readingOf (too-long _ (c .if1 .taken))), omega arith)
+returns c = (sym (ap setReadingOf (too-long _ (c .if1 .taken))), omega arith)
 
 returns-2 : tie.Need-returns-2 Inv-loop μ-loop
-returns-2 c = (sym (ap readingOf (no-count _ (c .if2 .taken))), omega arith)
+returns-2 c = (sym (ap setReadingOf (no-count _ (c .if2 .taken))), omega arith)
 
 loop-holds : tie.Need-loop-holds Inv-loop μ-loop
 loop-holds c = (omega arith, omega arith, passed-none (c .before .before .before .before .before .args .set .now) _)
@@ -30,7 +30,7 @@ returns-3 c =
     let w = c .before .before .before .wide in
     let l = c .before .before .loop in
     let cut = passed-cut s (w .result) (l .k) (l .at) (l .inv .2) (omega arith) (omega arith) in
-    (sym (ap readingOf (cut-off s (w .result) (w .ensures .0) (omega arith) (omega arith) cut)), omega arith)
+    (sym (ap setReadingOf (cut-off s (w .result) (w .ensures .0) (omega arith) (omega arith) cut)), omega arith)
 
 returns-4 : tie.Need-returns-4 Inv-loop μ-loop
 returns-4 c =
@@ -38,7 +38,7 @@ returns-4 c =
     let w = c .before .before .before .before .before .before .wide in
     let l = c .before .before .before .before .before .loop in
     let cut = passed-cut s (w .result) (l .k) (l .at) (l .inv .2) (omega arith) (omega arith) in
-    (sym (ap readingOf (cut-off s (w .result) (w .ensures .0) (omega arith) (omega arith) cut)), omega arith)
+    (sym (ap setReadingOf (cut-off s (w .result) (w .ensures .0) (omega arith) (omega arith) cut)), omega arith)
 
 loop-again : tie.Need-loop-again Inv-loop μ-loop
 loop-again c =
@@ -53,7 +53,7 @@ returns-5 c =
     let w = c .before .before .before .wide in
     let l = c .before .before .loop in
     let all = passed-all s (w .result) (l .k) (l .at) (l .inv .2) (omega arith) in
-    (sym (ap readingOf (left-over s (w .result) (w .ensures .0) (omega arith) (omega arith) _ (l .at) all (omega arith))), omega arith)
+    (sym (ap setReadingOf (left-over s (w .result) (w .ensures .0) (omega arith) (omega arith) _ (l .at) all (omega arith))), omega arith)
 
 returns-6 : tie.Need-returns-6 Inv-loop μ-loop
 returns-6 c =

@@ -1,10 +1,10 @@
 use mathlib.Core.Path.{refl}
-use Rattle.elementary.specs.Fma.{headOf}
+use Rattle.elementary.specs.Fma.{leadingDigits}
 use Rattle.elementary.proofs.fma.head.Statement.{statement}
 use Rattle.elementary.proofs.fma.head.Tie as tie
 
 returns : tie.Need-returns
-unfolding headOf
+unfolding leadingDigits
 returns c = refl
 
 pub head-spec : {M : Type 1} → statement M

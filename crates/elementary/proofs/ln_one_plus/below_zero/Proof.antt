@@ -4,7 +4,7 @@ use lib.Ieee.{lt, ofBits}
 use Rattle.float.specs.Ops.{bits, plusZero}
 use Rattle.float.specs.Methods.{betweenOf}
 use Rattle.float.proofs.Order.{lt-numbers, lt-trans}
-use Rattle.elementary.specs.LnOnePlus.{numberOf}
+use Rattle.elementary.specs.LnOnePlus.{lnOnePlusOfNumber}
 use Rattle.elementary.proofs.Numbers.{below-0}
 use borrow.Author.Needs.{needs}
 use Rattle.elementary.proofs.ln_one_plus.below_zero.Statement.{statement}
@@ -19,14 +19,14 @@ unfolding lt ofBits
 tiny-above-0 = refl
 
 returns : tie.Need-returns
-unfolding numberOf betweenOf
+unfolding lnOnePlusOfNumber betweenOf
 returns c =
     let t = c .before .if1 .taken in
     let n = below-0 _ (lt-numbers _ _ t .1) (c .before .before .pre) in
     rw (t, lt-trans _ plusZero _ n high-above-0, c .if2 .taken, lt-trans _ plusZero _ n tiny-above-0)
 
 returns-2 : tie.Need-returns-2
-unfolding numberOf betweenOf
+unfolding lnOnePlusOfNumber betweenOf
 returns-2 c =
     let t = c .before .before .if1 .taken in
     let n = below-0 _ (lt-numbers _ _ t .1) (c .before .before .before .pre) in
@@ -36,15 +36,15 @@ anywhere-requires : tie.Need-anywhere-requires
 anywhere-requires c κs = lt-numbers _ _ (c .if3 .taken) .1
 
 returns-3 : tie.Need-returns-3
-unfolding numberOf
+unfolding lnOnePlusOfNumber
 returns-3 c = rw (c .before .before .if1 .left, c .before .if3 .taken) (c .anywhere .ensures)
 
 returns-4 : tie.Need-returns-4
-unfolding numberOf
+unfolding lnOnePlusOfNumber
 returns-4 c = rw (c .before .before .if1 .left, c .before .if3 .left, c .if4 .taken)
 
 returns-5 : tie.Need-returns-5
-unfolding numberOf
+unfolding lnOnePlusOfNumber
 returns-5 c = rw (c .before .before .if1 .left, c .before .if3 .left, c .if4 .left)
 
 pub below-zero-spec : {M : Type 1} → statement M

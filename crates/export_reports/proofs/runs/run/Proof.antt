@@ -8,7 +8,7 @@ use lib.ListN.{length}
 use Rattle.rate_tables.specs.Adjusted.{adjustedTables}
 use Rattle.gap_tables.specs.Gaps.{gapTables}
 use Rattle.export_scripts.specs.Script.{items}
-use Rattle.export_reports.specs.Runs.{reports, startOf, scriptBytes}
+use Rattle.export_reports.specs.Runs.{reports, scriptStart, scriptBytes}
 use Rattle.export_reports.proofs.Lengths.{reports-length}
 use Rattle.lent_bytes.proofs.Buffer.{fits-written, short-written}
 use Rattle.export_reports.proofs.Buffers.{fits-replied, short-replied, none-replied, none-written, bad-rule, bad-script, good}
@@ -36,7 +36,7 @@ asks c = scriptBytes (c .args .pre .0) (c .args .post .0) (c .args .rule) (c .ar
 whole : (c : tie.After-questions-in)
     → let start = c .before .before .before .before .before .before in
     let a = start .args in
-    asks start ≡ reports (adjustedTables (a .post .0)) (gapTables (a .pre .0)) (items (a .script .now)) (startOf (a .rule) (a .builder))
+    asks start ≡ reports (adjustedTables (a .post .0)) (gapTables (a .pre .0)) (items (a .script .now)) (scriptStart (a .rule) (a .builder))
 whole c =
     let a = c .before .before .before .before .before .before .args in
     good (a .pre .0) (a .post .0) (a .rule) (a .script .now) (a .builder) (c .before .before .before .if1 .left) (sym (c .before .before .is-script .ensures) ∙ not-false (c .before .before .is-script .result) (c .before .if2 .left))
@@ -46,7 +46,7 @@ size : (c : tie.After-questions-in)
     length (asks start) ≡ 91 * c .questions-in .result
 size c =
     let a = c .before .before .before .before .before .before .args in
-    ap length (whole c) ∙ reports-length (adjustedTables (a .post .0)) (gapTables (a .pre .0)) (items (a .script .now)) (startOf (a .rule) (a .builder)) ∙ ap (λ (n : ℕ). 91 * n) (sym (c .questions-in .ensures))
+    ap length (whole c) ∙ reports-length (adjustedTables (a .post .0)) (gapTables (a .pre .0)) (items (a .script .now)) (scriptStart (a .rule) (a .builder)) ∙ ap (λ (n : ℕ). 91 * n) (sym (c .questions-in .ensures))
 
 returns-3 : tie.Need-returns-3
 returns-3 c =

@@ -4,8 +4,8 @@ use borrow.Author.Needs.{needs}
 use lib.ListN.{length, take}
 use Rattle.lent_text.proofs.Printed.{print-then, printed-as}
 use Rattle.export_umi.specs.declared.asked.Asked.{Asked}
-use Rattle.export_umi.specs.Asked.{foundBy, textIn}
-use Rattle.export_umi.specs.Sent.{room}
+use Rattle.export_umi.specs.Asked.{askedFound, askedText}
+use Rattle.export_umi.specs.Sent.{roomForString}
 use Rattle.export_umi.proofs.Laws.{text-front}
 use Rattle.export_umi_sets.specs.Answers.{setBytes}
 use Rattle.export_umi_sets.proofs.sets.put_set.Statement.{statement}
@@ -13,11 +13,11 @@ use Rattle.export_umi_sets.proofs.sets.put_set.Tie as tie
 
 -- the string at the front of its buffer
 front : (k : tie.After-ask) → let s = k .before .before .before .before .args in
-    take (k .ask .result .length) (k .ask .last .1 .1 .1 .0) ≡ textIn (foundBy (s .question) (s .caller) (s .set .now) room)
+    take (k .ask .result .length) (k .ask .last .1 .1 .1 .0) ≡ askedText (askedFound (s .question) (s .caller) (s .set .now) roomForString)
 front k =
     let s = k .before .before .before .before .args in
     let e = k .ask .ensures in
-    text-front room (k .ask .result .length) _ (foundBy (s .question) (s .caller) (s .set .now) room) (e .1 .1) (ap (λ (a : Asked). a .length) (e .0)) (e .1 .0)
+    text-front roomForString (k .ask .result .length) _ (askedFound (s .question) (s .caller) (s .set .now) roomForString) (e .1 .1) (ap (λ (a : Asked). a .length) (e .0)) (e .1 .0)
 
 slice-aggregate-put-bytes-2 : tie.Need-slice-aggregate-put-bytes-2
 slice-aggregate-put-bytes-2 c =

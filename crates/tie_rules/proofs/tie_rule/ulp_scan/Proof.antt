@@ -6,12 +6,12 @@ use native.Mathlib.Omega.{arith}
 use borrow.Author.Needs.{needs}
 use Rattle.tie_rules.specs.declared.tie_rule.Scan.{Scan}
 use Rattle.tie_rules.specs.Lanes.{lane}
-use Rattle.tie_rules.specs.Ties.{ulpStep, scan, lowest}
+use Rattle.tie_rules.specs.Ties.{ulpStep, scan, belowAll}
 use Rattle.tie_rules.proofs.tie_rule.ulp_scan.Statement.{statement}
 use Rattle.tie_rules.proofs.tie_rule.ulp_scan.Tie as tie
 
 abbrev Inv-loop : tie.InvT-loop
-Inv-loop likelihoods run₀ i₀ run i = (i ≤ 4) × (run ≡ scan ulpStep lowest likelihoods i)
+Inv-loop likelihoods run₀ i₀ run i = (i ≤ 4) × (run ≡ scan ulpStep belowAll likelihoods i)
 
 abbrev μ-loop : tie.MeasureT-loop
 μ-loop likelihoods run₀ i₀ run i = 4 - i
@@ -30,7 +30,7 @@ returns : tie.Need-returns Inv-loop μ-loop
 returns c =
     let l = c .before .loop in
     let i : l .i ≡ 4 = omega arith in
-    l .inv .1 ∙ ap (scan ulpStep lowest (c .before .before .args .t1)) i
+    l .inv .1 ∙ ap (scan ulpStep belowAll (c .before .before .args .t1)) i
 
 pub ulp-scan-spec : {M : Type 1} → statement M
 ulp-scan-spec =

@@ -4,7 +4,7 @@ use Prim.Native.Nat.{_+_, _-_, _≤_}
 use native.Mathlib.Omega.{arith}
 use borrow.Author.Needs.{needs}
 use lib.ListN.{length, take, length-set}
-use Rattle.umi_rows.specs.Rows.{columnsAt}
+use Rattle.umi_rows.specs.Rows.{rowColumnsAt}
 use Rattle.umi_family.specs.Family.{bytesSummed}
 use Rattle.umi_rows.proofs.RowLoops.{fits-less}
 use Rattle.umi_rows.proofs.ColumnLoops.{filled-less}
@@ -15,7 +15,7 @@ use Rattle.umi_family.proofs.by_sums.call_summed.Tie as tie
 abbrev Inv-loop : tie.InvT-loop
 Inv-loop rule window set places text₀ at₀ text at =
     (length text ≡ length text₀) × (at ≤ length text₀)
-    × (take at text ≡ take at (bytesSummed window rule (columnsAt (length text₀) set places)))
+    × (take at text ≡ take at (bytesSummed window rule (rowColumnsAt (length text₀) set places)))
 
 abbrev μ-loop : tie.MeasureT-loop
 μ-loop rule window set places text₀ at₀ text at = length text₀ - at

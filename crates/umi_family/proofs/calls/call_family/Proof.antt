@@ -4,14 +4,14 @@ use mathlib.Core.Bool.{true}
 use borrow.Author.Tests.{not-true, not-false}
 use borrow.Author.Needs.{needs}
 use lib.ListN.{length}
-use Rattle.umi_rows.specs.Rows.{fitting, Fits}
+use Rattle.umi_rows.specs.Rows.{fitting, RowsFit}
 use Rattle.umi_family.specs.Family.{textAt, calledAt}
 use Rattle.umi_rows.proofs.RowLoops.{fits}
 use Rattle.umi_family.proofs.calls.call_family.Statement.{statement}
 use Rattle.umi_family.proofs.calls.call_family.Tie as tie
 
 -- the strings lie in the set
-within : (c : tie.Else1) → let a = c .before .before .before .before .before .args in (fitting (length (a .text .now)) (a .set .now) (a .places .now) ≡ true) × Fits (length (a .text .now)) (a .set .now) (a .places .now)
+within : (c : tie.Else1) → let a = c .before .before .before .before .before .args in (fitting (length (a .text .now)) (a .set .now) (a .places .now) ≡ true) × RowsFit (length (a .text .now)) (a .set .now) (a .places .now)
 within c =
     let a = c .before .before .before .before .before .args in
     let e : fitting (length (a .text .now)) (a .set .now) (a .places .now) ≡ true = sym (c .before .fit .ensures) ∙ not-false _ (c .if1 .left) in

@@ -5,7 +5,7 @@ use native.Mathlib.Omega.{arith}
 use borrow.Author.Needs.{needs}
 use lib.ListN.{length, take, length-set}
 use Rattle.tie_rules.specs.declared.tie_rule.TieRule.the-variants.{FgbioCompat}
-use Rattle.umi_rows.specs.Rows.{bytesAt, columnsAt}
+use Rattle.umi_rows.specs.Rows.{bytesAt, rowColumnsAt}
 use Rattle.umi_family.specs.Family.{bytesSummed}
 use Rattle.umi_rows.proofs.RowLoops.{fits-less, given-length}
 use Rattle.umi_rows.proofs.ColumnLoops.{filled-less}
@@ -17,7 +17,7 @@ use Rattle.umi_family.proofs.leads.call_leads.Tie as tie
 abbrev Inv-loop : tie.InvT-loop
 Inv-loop window set places a c g t text₀ at₀ text at =
     (length text ≡ length text₀) × (at ≤ length text₀)
-    × (take at text ≡ take at (bytesSummed window FgbioCompat (columnsAt (length text₀) set places)))
+    × (take at text ≡ take at (bytesSummed window FgbioCompat (rowColumnsAt (length text₀) set places)))
 
 abbrev μ-loop : tie.MeasureT-loop
 μ-loop window set places a c g t text₀ at₀ text at = length text₀ - at

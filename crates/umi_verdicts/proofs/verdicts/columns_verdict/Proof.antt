@@ -6,7 +6,7 @@ use borrow.Author.Needs.{needs}
 use lib.ListN.{length, drop}
 use Rattle.refusals.specs.Result.{firstRefused}
 use Rattle.umi_column.specs.Verdicts.{verdictOf}
-use Rattle.umi_rows.specs.Rows.{columnsAt}
+use Rattle.umi_rows.specs.Rows.{rowColumnsAt}
 use Rattle.umi_rows.proofs.ColumnLoops.{columns-length, column-at, gathered, gathered-count}
 use Rattle.umi_verdicts.proofs.Refusals.{refusal-more, refusal-found, refusal-none}
 use Rattle.umi_verdicts.proofs.verdicts.columns_verdict.Statement.{statement}
@@ -14,7 +14,7 @@ use Rattle.umi_verdicts.proofs.verdicts.columns_verdict.Tie as tie
 
 abbrev Inv-loop : tie.InvT-loop
 Inv-loop set places width at₀ at =
-    let columns = columnsAt width set places in
+    let columns = rowColumnsAt width set places in
     (at ≤ width) × (firstRefused verdictOf (drop at columns) ≡ firstRefused verdictOf columns)
 
 abbrev μ-loop : tie.MeasureT-loop
@@ -34,7 +34,7 @@ returns c =
     let o = c .before .before .before .before .before .before .before in
     let a = o .before .before .before .args in
     let g = c .before .before .before .before .before .gather in
-    let cs = columnsAt (a .width) (a .set .now) (a .places .now) in
+    let cs = rowColumnsAt (a .width) (a .set .now) (a .places .now) in
     let at = o .loop .at in
     let size : length cs ≡ a .width = columns-length (a .width) (a .set .now) (a .places .now) in
     let here = column-at (a .width) (a .set .now) (a .places .now) at (omega arith) ∙ sym (gathered (a .set .now) (a .places .now) at _ (o .before .before .before .pre .1) (g .ensures)) in
@@ -46,7 +46,7 @@ loop-again c =
     let o = c .before .before .before .before .before .before in
     let a = o .before .before .before .args in
     let g = c .before .before .before .before .gather in
-    let cs = columnsAt (a .width) (a .set .now) (a .places .now) in
+    let cs = rowColumnsAt (a .width) (a .set .now) (a .places .now) in
     let at = o .loop .at in
     let size : length cs ≡ a .width = columns-length (a .width) (a .set .now) (a .places .now) in
     let here = column-at (a .width) (a .set .now) (a .places .now) at (omega arith) ∙ sym (gathered (a .set .now) (a .places .now) at _ (o .before .before .before .pre .1) (g .ensures)) in
@@ -58,7 +58,7 @@ returns-2 c =
     let o = c .before in
     let a = o .before .before .before .args in
     let size = columns-length (a .width) (a .set .now) (a .places .now) in
-    refusal-none (columnsAt (a .width) (a .set .now) (a .places .now)) (o .loop .at) (omega arith) ∙ o .loop .inv .1
+    refusal-none (rowColumnsAt (a .width) (a .set .now) (a .places .now)) (o .loop .at) (omega arith) ∙ o .loop .inv .1
 
 pub columns-verdict-spec : {M : Type 1} → statement M
 columns-verdict-spec =

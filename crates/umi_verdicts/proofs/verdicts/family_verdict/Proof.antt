@@ -10,7 +10,7 @@ use Rattle.words.specs.Lists.{any}
 use Rattle.refusals.specs.declared.Verdict.{Verdict}
 use Rattle.refusals.specs.Refusals.{verdictNumber}
 use Rattle.refusals.proofs.Numbers.{said-number}
-use Rattle.umi_rows.specs.Rows.{fitting, Fits, rowsAt, isHigh}
+use Rattle.umi_rows.specs.Rows.{fitting, RowsFit, rowsAt, isHigh}
 use Rattle.umi_verdicts.specs.FamilyVerdicts.{verdictWithin, verdictAt, verdictNumberAt}
 use Rattle.umi_rows.proofs.RowLoops.{fits}
 use Rattle.umi_verdicts.proofs.verdicts.family_verdict.Statement.{statement}
@@ -26,7 +26,7 @@ module _ (w : ℕ) (s ps : List ℕ) where
   verdict-said v e = said-number verdictNumber (verdictAt w s ps) (verdictNumberAt w s ps) verdict-number v e
 
 -- the strings lie in the set
-within : (c : tie.Else1) → let a = c .before .before .before .before .args in (fitting (a .width) (a .set .now) (a .places .now) ≡ true) × Fits (a .width) (a .set .now) (a .places .now)
+within : (c : tie.Else1) → let a = c .before .before .before .before .args in (fitting (a .width) (a .set .now) (a .places .now) ≡ true) × RowsFit (a .width) (a .set .now) (a .places .now)
 within c =
     let a = c .before .before .before .before .args in
     let e : fitting (a .width) (a .set .now) (a .places .now) ≡ true = sym (c .before .fit .ensures) ∙ not-false _ (c .if1 .left) in
