@@ -27,11 +27,10 @@ use Rattle.simple_consensus.specs.Strings.{columnsOf, alike, isFamily}
 use Rattle.simple_consensus.specs.Verdicts.{familyVerdict, consensusVerdict}
 use Rattle.umi_groups.specs.Found.{Found}
 use Rattle.simple_consensus.specs.Consensus.{callerAt, defaultCaller, withBuilder, builderAt, consensusByte, familyFound, firstFound, found, consensusOf}
-use Rattle.simple_umi.specs.Duplex.{endsIn, strandOf, duplexOf}
+use Rattle.simple_umi.specs.Duplex.{endsIn, strandOf, duplexOf, pairing}
 use Rattle.umi_groups.specs.Found.{roomFor}
 use Rattle.simple_umi.specs.Answers.{duplexIn}
 use Rattle.umi_family.specs.Family.{bytesBy}
-use Rattle.simple_umi_laws.specs.DuplexLaws.{pairing}
 use Rattle.simple_umi_laws.specs.DuplexExample.{exampleSet, Example}
 use Rattle.simple_consensus.proofs.Groups.{bytes-by}
 use Rattle.simple_umi_laws.proofs.DefaultEntry.{right, wrong, correct-entry, error-entry}

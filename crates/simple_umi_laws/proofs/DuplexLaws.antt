@@ -19,8 +19,8 @@ use Rattle.simple_consensus.specs.Strings.{firstOf, columnOf, isFamily}
 use Rattle.simple_consensus.specs.Verdicts.{consensusVerdict}
 use Rattle.umi_groups.specs.Found.{Found}
 use Rattle.simple_consensus.specs.Consensus.{withBuilder, builderAt, found, consensusOf}
-use Rattle.simple_umi.specs.Duplex.{FoundDuplex, endsIn, strandOf, paired, duplexOf}
-use Rattle.simple_umi_laws.specs.DuplexLaws.{Strand, Duplex, pairing, noColumn}
+use Rattle.simple_umi.specs.Duplex.{FoundDuplex, endsIn, strandOf, paired, duplexOf, pairing}
+use Rattle.simple_umi_laws.specs.DuplexLaws.{Strand, Duplex, noColumn}
 use Rattle.simple_umi.proofs.Strands.{strand-kept, strand-left}
 use Rattle.simple_umi_laws.proofs.AnswerLaws.{answered, no-refusal, same-start, found-reset}
 
