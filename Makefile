@@ -19,7 +19,7 @@ SEED ?= 1
 
 # The file that `make run` and `make try` list. A recipe takes it from its environment, so that its
 # name may have a space or a quote in it.
-SAMPLE ?= samples/document.col
+SAMPLE ?= samples/scope.col
 export SAMPLE
 
 # Where `make vectors` writes the stored list of the Rust's answers.
