@@ -23,12 +23,12 @@ tableNumber correct error thresholds cerr cap j =
     else cap
 
 -- byte i of a number, the low byte first
-unfoldable pub tableByte : ℕ → ℕ → ℕ
-tableByte n i = n / 256 ^ i % 256
+unfoldable pub byteInNumber : ℕ → ℕ → ℕ
+byteInNumber n i = n / 256 ^ i % 256
 
 -- byte k of these numbers
 abbrev pub numberByte : List Float → List Float → List Float → List Float → ℕ → ℕ → ℕ
-numberByte correct error thresholds cerr cap k = tableByte (tableNumber correct error thresholds cerr cap (k / 8)) (k % 8)
+numberByte correct error thresholds cerr cap k = byteInNumber (tableNumber correct error thresholds cerr cap (k / 8)) (k % 8)
 
 -- byte k of the tables of a pair of rates
 abbrev pub tableByte : ℕ → ℕ → ℕ → ℕ

@@ -3,7 +3,7 @@ ghost use mathlib.Core.Path.{_≡_};
 ghost use Prim.Native.Nat.{_≤_, _<_};
 ghost use lib.ListN.{length};
 ghost use Rattle.lent_bytes.specs.Buffer.{lengthWritten, written};
-ghost use Rattle.export_tables.specs.Tables.{tableNumber, tableByte, numberByte, tableBytes, overwritten};
+ghost use Rattle.export_tables.specs.Tables.{tableNumber, byteInNumber, numberByte, tableBytes, overwritten};
 use float::pattern;
 use phred::PhredScore;
 use rate_tables::AdjustedProbabilityTables;
@@ -76,7 +76,7 @@ fn number<'a>(
 // Byte i of n, the low byte first.
 fn byte(n: u64, i: usize) -> u8
     requires { ⌜ i < 8 ⌝ }
-    ensures { λ r. ⌜ r ≡ tableByte n i ⌝ }
+    ensures { λ r. ⌜ r ≡ byteInNumber n i ⌝ }
 {
     match i {
         0 => (n % 0x100) as u8,

@@ -1,6 +1,6 @@
 -- `write`: so many bytes are written, and the others are as they were. Assumes nothing.
 use Prim.Native.Nat.{ℕ, _-_, _%_, _≤_}
-use Rattle.export_tables.specs.Tables.{tableByte, numberByte, overwritten}
+use Rattle.export_tables.specs.Tables.{byteInNumber, numberByte, overwritten}
 use mathlib.Core.Path.{_≡_, _∙_, ap}
 use native.Mathlib.Omega.{arith}
 use borrow.Author.Needs.{needs}
@@ -26,7 +26,7 @@ slice-write-out c =
 loop-again : tie.Need-loop-again Inv-loop μ-loop
 loop-again c =
     let l = c .before .before .before .loop in
-    (omega arith, l .inv .1, rw (l .inv .2) (over-more _ (l .k) _ (c .byte .result) (omega arith) (c .byte .ensures ∙ ap (λ (n : ℕ). tableByte n (l .k % 8)) (c .before .number .ensures))))
+    (omega arith, l .inv .1, rw (l .inv .2) (over-more _ (l .k) _ (c .byte .result) (omega arith) (c .byte .ensures ∙ ap (λ (n : ℕ). byteInNumber n (l .k % 8)) (c .before .number .ensures))))
 
 same-length : tie.Need-same-length Inv-loop μ-loop
 same-length c =

@@ -24,7 +24,9 @@ ends-in-requires : tie.Need-ends-in-requires Inv-loop μ-loop
 ends-in-requires c κs = let o = c .before .before in o .before .before .before .before .pre .1 .1 (o .loop .k) (omega arith) .0
 
 mul-kept-2 : tie.Need-mul-kept-2 Inv-loop μ-loop
-mul-kept-2 c = omega (arith, c .before .before .before .before .before .before .before .before .before .pre .1 .0)
+mul-kept-2 c =
+    let pre = c .before .before .before .before .before .before .before .before .before .pre in
+    omega (arith, pre .1 .0)
 
 loop-again : tie.Need-loop-again Inv-loop μ-loop
 loop-again c =

@@ -52,10 +52,11 @@ part-write-front-end c = omega (arith, whole (c .before .before))
 
 returns-2 : tie.Need-returns-2
 returns-2 c =
+    let else1 = c .before .before .before .before .before .before .before .before in
     let a = c .before .before .before .before .before .before .before .before .before .before .before .before .before .before .args in
     let out = a .out .now in
     let from = byteAt (a .places .now) 0 + 1 in
-    let fits = inside (c .before .before .before .before .before .before .before .before) in
+    let fits = inside else1 in
     let text = take (a .width) (drop from (a .set .now)) in
     let put = c .before .before .before .before .write-front in
     let reply = rw (row-lent (a .set .now) from (a .width)) at (put .ensures .0) in
@@ -66,11 +67,12 @@ returns-2 c =
 
 returns-3 : tie.Need-returns-3
 returns-3 c =
+    let else1 = c .before .before .before .before .before .before .before in
     let start = c .before .before .before .before .before .before .before .before .before .before .before .before .before in
     let a = start .args in
     let out = a .out .now in
     let from = byteAt (a .places .now) 0 + 1 in
-    let fits = inside (c .before .before .before .before .before .before .before) in
+    let fits = inside else1 in
     let size = first-length (a .width) (a .set .now) (a .places .now) (start .pre) fits in
     let text = take (a .width) (drop from (a .set .now)) in
     let put = c .before .before .before .write-front in
