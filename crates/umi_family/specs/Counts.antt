@@ -1,4 +1,4 @@
--- How many of the strings have a base at each place.
+-- As it is run; `named-by-counts` (umi_count_laws/proofs/Named) joins it to the lane that the rule names: how many of the strings have a base at each place.
 use mathlib.Core.Path.{_≡_}
 use mathlib.Core.Bool.{_||_}
 use mathlib.Core.List.{List}

@@ -1,4 +1,4 @@
--- What a family's columns give.
+-- As it is run; `group-said` (simple_consensus/proofs/Groups) joins it to `consensusOf`: what a family's columns give.
 use mathlib.Core.Bool.{false}
 use mathlib.Core.List.{List, map}
 use Prim.Native.Nat.{ℕ}

@@ -1,4 +1,5 @@
--- Strings of one width by the places of their length bytes in a set.
+-- As it is run; `columns-same` (simple_consensus/proofs/Rows) joins it to `columnsOf`: strings of one width by the places of their length bytes in a
+-- set. `isHigh` and `differsFrom`, at the end, are plain.
 use mathlib.Core.Bool.{Bool, not, _&&_}
 use mathlib.Core.List.{List, map}
 use Prim.Native.Nat.{ℕ, _+_, _≤_, _<_}

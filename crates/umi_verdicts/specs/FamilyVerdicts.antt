@@ -1,4 +1,4 @@
--- What a family is refused for.
+-- As it is run; `verdict-same` (simple_consensus/proofs/Groups) joins it to `familyVerdict`: what a family is refused for.
 use mathlib.Core.List.{List}
 use Prim.Native.Nat.{ℕ}
 use Rattle.words.specs.Choice.{if_then_else_}

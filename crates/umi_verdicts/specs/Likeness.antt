@@ -1,4 +1,5 @@
--- Strings that are like the first: a look that is quicker than the columns.
+-- As it is run; `like-sound` (umi_verdicts/proofs/Likeness) joins it to `verdictWithin`: strings that are like the first, a look that is quicker than the
+-- columns.
 use mathlib.Core.Bool.{Bool, true, false, _&&_, _||_}
 use mathlib.Core.List.{List, [], _∷_}
 use Prim.Native.Nat.{ℕ}
