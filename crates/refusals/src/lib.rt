@@ -13,19 +13,19 @@ pub enum Refusal {
     BadSettings,
     // 4, a quality of 255: `observationVerdict` in column_file/specs/Reading.
     AbsentQuality,
-    // 5, there are no strings: `callVerdict` in simple_umi/specs/Verdicts.
+    // 5, there are no strings: `callVerdict` in simple_consensus/specs/Verdicts.
     NoStrings,
-    // 6, the strings' lengths differ: `umisVerdict` in simple_umi/specs/Verdicts.
+    // 6, the strings' lengths differ: `umisVerdict` in simple_consensus/specs/Verdicts.
     LengthsDiffer,
-    // 7, a byte of 128 or more: `familyVerdict` in simple_umi/specs/Verdicts.
+    // 7, a byte of 128 or more: `familyVerdict` in simple_consensus/specs/Verdicts.
     NotAscii,
     // 8, a non-DNA byte unlike the first string's: `verdictOf` in umi_column/specs/Verdicts.
     UnlikeFirst,
     // 9, DNA and non-DNA in one column: `verdictOf` in umi_column/specs/Verdicts.
     Mixed,
-    // 10, the answer buffer is shorter than the answer: `roomFor` in simple_umi/specs/Answers and column_listing/specs/Answers.
+    // 10, the answer buffer is shorter than the answer: `roomFor` in umi_groups/specs/Found, `roomForText` in column_listing/specs/Answers.
     BufferTooShort,
-    // 11, a base meets a builder that has counted 4,294,967,295 or more: `answerOf` in base_builder/specs/Builder.
+    // 11, a base meets a builder that has counted 4,294,967,295 or more: `addAnswer` in base_builder/specs/Builder.
     FullBuilder,
 }
 
