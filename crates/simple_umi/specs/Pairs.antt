@@ -1,4 +1,4 @@
--- As it is run; `pair-in` (simple_umi/proofs/Strands) joins it to `duplexOf`: /A, and then /B with what /A gave.
+-- As it is run; `pair-in` (simple_umi/proofs/Pairs) joins it to `duplexOf`: /A, and then /B with what /A gave.
 use mathlib.Core.Path.{_≡_}
 use mathlib.Core.Bool.{Bool}
 use mathlib.Core.List.{List}

@@ -19,6 +19,7 @@ pub record Found : Type 0 where
   pub hadErrors : Bool
   pub builder : ConsensusBaseBuilder
 
+-- of these parts
 abbrev pub foundBy : List ℕ → Bool → ConsensusBaseBuilder → Found
 foundBy text flag b = record { text = text; hadErrors = flag; builder = b }
 
