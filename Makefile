@@ -40,7 +40,7 @@ help: ## list the targets
 # rt starts a batch of checks and waits for all of it: with four at a time no processor is idle while
 # the longest one ends. Each takes about 1 GB.
 test: export RT_JOBS ?= 4
-# The prover fills and frees gigabytes: with large pages a check takes about a tenth less time.
+# The prover fills and frees gigabytes: with large pages a check takes 5 to 10 percent less time.
 test: export GLIBC_TUNABLES ?= glibc.malloc.hugetlb=1
 test: need-rt ## everything: layout, all proofs from nothing, comparison beside the Rust (COMPARISON=required)
 	@tests/everything
