@@ -12,6 +12,7 @@ use Rattle.column_file.specs.Places.{placesOf}
 use Rattle.judged_file.specs.declared.Judgement.{Judgement}
 use Rattle.judged_file.specs.declared.Judgement.the-variants as judgement
 
+-- the contents of a file, and what is found in its strings
 pub record Judged : Type 0 where
   pub file : File
   pub found : Found
@@ -22,6 +23,7 @@ judgeFile s = andThen (readFile s) (λ f. andThen (consensusOf defaultCaller (f 
 
 -- ---- the reply
 
+-- a refusal, or where the parts are, how long the consensus is, and its flag
 abbrev pub judgementOf : Result Judged → Judgement
 judgementOf (refused r) = judgement.Refused r
 judgementOf (accepted j) = judgement.Accepted (placesOf (j .file)) (length (j .found .text)) (j .found .hadErrors)

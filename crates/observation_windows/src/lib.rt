@@ -1,5 +1,5 @@
 // Observations added to a builder by a table of windows, which is built once from the tables of a rate
-// and lent: what the four lanes get stands side by side, whichever of them is observed.
+// and borrowed: what the four lanes get stands side by side, whichever of them is observed.
 mod adding;
 mod table;
 

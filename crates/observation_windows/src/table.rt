@@ -20,7 +20,7 @@ pub fn window_of(correct: f64, error_per_alt: f64) -> [f64; 8]
     ]
 }
 
-// The place of the window of a quality, which is not made for it.
+// Entry i of the table, read from the two tables without making the window.
 fn window_entry(i: usize, correct: &[f64; 94], error_per_alt: &[f64; 94]) -> f64
     requires { ⌜ i < 752 ⌝ }
     ensures { λ r. ⌜ r ≡ windowEntry (now (correct .entry)) (now («error_per_alt» .entry)) i ⌝ }

@@ -1,4 +1,4 @@
--- What the functions reply, and what the caller is afterwards; the lent buffer's `bufferAfter` is in umi_groups/specs/Found.
+-- What the functions reply, and what the caller is afterwards; the borrowed buffer's `bufferAfter` is in umi_groups/specs/Found.
 use Prim.Native.Nat.{ℕ}
 use mathlib.Core.List.{List}
 use lib.ListN.{length}

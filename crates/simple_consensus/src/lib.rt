@@ -1,5 +1,5 @@
-// The caller of simple_umi.rs that refuses strings of unequal lengths. A set is lent in its file form, and
-// the answer goes into a lent buffer.
+// The caller of simple_umi.rs that refuses strings of unequal lengths. A set is borrowed in its file form,
+// and the answer goes into a borrowed buffer.
 mod answers;
 mod caller;
 mod group;

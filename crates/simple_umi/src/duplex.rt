@@ -45,7 +45,7 @@ fn ends_in(set: &[u8], place: usize, letter: u8) -> bool
     set[place + n] == letter
 }
 
-// The places of a strand's strings, into the lent ones, and how many there are.
+// The places of a strand's strings, into the borrowed slice, and how many there are.
 fn strand_places(set: &[u8], places: &[usize], letter: u8, kept: &mut [usize]) -> usize
     requires { ⌜ (length (now places) ≤ length (now kept)) × Trimmed 0 (now set) (now places) ⌝ }
     ensures strings { λ r. ⌜ stringsAt 2 (now (set .entry)) (take r (now (kept .exit))) ≡ strandOf letter (stringsAt 0 (now (set .entry)) (now (places .entry))) ⌝ }

@@ -11,6 +11,7 @@ pub fn wide(x: u8) -> usize
     x as usize
 }
 
+// A u8 as a u64.
 pub fn u8_as_u64(x: u8) -> u64
     ensures { λ r. ⌜ r ≡ x ⌝ }
     ensures { λ r. ⌜ r < 256 ⌝ }
@@ -18,6 +19,7 @@ pub fn u8_as_u64(x: u8) -> u64
     x as u64
 }
 
+// A u32 as a u64.
 pub fn u32_as_u64(x: u32) -> u64
     ensures { λ r. ⌜ r ≡ x ⌝ }
     ensures { λ r. ⌜ r < 4294967296 ⌝ }
