@@ -23,7 +23,7 @@ def given(reply):
 
 
 def records(file):
-    """Of each column: base, quality, depth, counts of A, C, G and T, ignored bytes."""
+    """Of each column: base, quality, depth (the sum of the counts), counts of A, C, G and T, ignored bytes."""
     out = ctypes.create_string_buffer(28 * 32768)
     length = given(library.consensus_records(file, ctypes.c_size_t(len(file)), out, ctypes.c_size_t(len(out))))
     return [(chr(base), quality, *counts) for base, quality, *counts in struct.iter_unpack("<BBxx6I", out.raw[:length])]

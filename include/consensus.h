@@ -58,8 +58,9 @@ uint64_t consensus_listing(const uint8_t *file, size_t file_length, uint8_t *out
 uint64_t consensus_list(const uint8_t *file, size_t file_length, uint8_t *out, size_t out_length);
 
 /* The same as numbers, CONSENSUS_RECORD bytes for each column: base, quality, two zeros, then depth, the counts of A, C, G and T,
- * and the number of ignored observations, in 4 bytes each. Replies as consensus_listing does. A buffer of CONSENSUS_RECORDS_ROOM
- * holds the records of every file. */
+ * and the number of ignored observations, in 4 bytes each. Depth is the sum of the four counts, as in the listing: ignored
+ * observations, such as N, are not in it. Replies as consensus_listing does. A buffer of CONSENSUS_RECORDS_ROOM holds the records
+ * of every file. */
 #define CONSENSUS_RECORD 28
 #define CONSENSUS_RECORDS_ROOM (28 * 32764)
 uint64_t consensus_records(const uint8_t *file, size_t file_length, uint8_t *out, size_t out_length);

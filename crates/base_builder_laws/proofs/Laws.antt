@@ -100,6 +100,7 @@ laws pre post rule es =
     record {
       own-values = had .sums;
       count = had .counts;
+      together = in-all t os b had;
       most = rw (in-all t os b had) (had .most);
       call-base = held-base t os b had pre;
       nothing-counted = nothing-counted t os b had;

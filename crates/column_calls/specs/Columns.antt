@@ -1,7 +1,5 @@
 -- The builder of a column of a file, its call and its counts.
-use Prim.Native.Nat.{ℕ}
 use mathlib.Core.List.{List, map}
-use lib.ListN.{length}
 use Rattle.gap_tables.specs.Gaps.{gapTables}
 use Rattle.lane_calls.specs.declared.call.Call.{Call}
 use Rattle.base_builder.specs.declared.builder.ConsensusBaseBuilder.{ConsensusBaseBuilder}
@@ -31,7 +29,3 @@ columnCall g c = callOf (gapTables (g .«error_rate_pre_umi» .0)) (builderOfCol
 -- its call, and the counts of A, C, G and T
 unfoldable pub calledColumn : Settings → List Observation → ColumnCall
 calledColumn g c = record { call = columnCall g c; counts = builderOfColumn g c .observations }
-
--- its depth: how many observations the file has of it, also those that are ignored (SCOPE 6.1)
-abbrev pub depthOf : List Observation → ℕ
-depthOf c = length c

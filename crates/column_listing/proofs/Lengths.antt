@@ -13,7 +13,6 @@ use Rattle.refusals.specs.declared.Refusal.{Refusal}
 use Rattle.refusals.specs.declared.Refusal.the-variants.{FileTooLong, CutOff, BadSettings, AbsentQuality, NoStrings, LengthsDiffer, NotAscii, UnlikeFirst, Mixed, BufferTooShort, FullBuilder}
 use Rattle.refusals.specs.Refusals.{numberOf}
 use Rattle.refusals.specs.Result.{accepted}
-use Rattle.string_set.specs.Readers.{longestFile}
 use Rattle.lent_text.proofs.Decimal.{decimal-length}
 use Rattle.tie_rules.specs.Lanes.{counted}
 use Rattle.lane_calls.specs.declared.call.Call.{Call}
@@ -27,7 +26,6 @@ use Rattle.column_file.specs.declared.file.Places.{Places}
 use Rattle.column_file.specs.declared.settings.Settings.{Settings}
 use Rattle.column_file.specs.Format.{Observation}
 use Rattle.column_file.specs.Reading.{File, readFile}
-use Rattle.column_file.specs.Places.{columnsSize}
 use Rattle.column_calls.specs.Columns.{eventOf, builderOfColumn, columnCall}
 use Rattle.column_file.proofs.Readings.{FileAt}
 use Rattle.listing_lines.specs.Lines.{lineOf, columnLine, columnLines, umiLine, textOf, refusalLine}
@@ -36,17 +34,16 @@ use Rattle.column_listing.specs.Places.{placesText}
 use Rattle.column_file.proofs.Files.{two-each, columns-inside, file-size}
 use Rattle.column_listing.proofs.Texts.{text-parts, text-is}
 
--- of a call's line, where its number and its depth are below 100,000, its quality below 100 and its counts 32-bit numbers
-pub line-length : (i : ℕ) (call : Call) (depth : ℕ) (counts : List ℕ) → i < 100000 → call .qual .0 < 100 → depth < 100000
-    → total counts ≤ 4294967295 → length (lineOf i call depth counts) ≤ 70
+-- of a call's line, where its number is below 100,000, its quality below 100 and its counts together, the depth, a 32-bit number
+pub line-length : (i : ℕ) (call : Call) (counts : List ℕ) → i < 100000 → call .qual .0 < 100 → total counts ≤ 4294967295 → length (lineOf i call counts) ≤ 70
 unfolding lineOf total
-line-length i call depth counts h q d n =
+line-length i call counts h q n =
     simp length-append
     (omega (
       arith,
       decimal-length 5 i (omega arith) h,
       decimal-length 2 (call .qual .0) (omega arith) q,
-      decimal-length 5 depth (omega arith) d,
+      decimal-length 10 (total counts) (omega arith) (omega arith),
       decimal-length 10 (counted counts 0) (omega arith) (omega arith),
       decimal-length 10 (counted counts 1) (omega arith) (omega arith),
       decimal-length 10 (counted counts 2) (omega arith) (omega arith),
@@ -64,22 +61,22 @@ call-quality c h =
 
 module _ (g : Settings) where
   -- of a column's line
-  pub column-length : (i : ℕ) (c : List Observation) → i < 100000 → length c < 100000 → length (columnLine i g c) ≤ 70
+  pub column-length : (i : ℕ) (c : List Observation) → i < 100000 → length (columnLine i g c) ≤ 70
   unfolding columnLine columnCall builderOfColumn
-  column-length i c h k =
+  column-length i c h =
       let pre = g .«error_rate_pre_umi» .0 in
       let post = g .«error_rate_post_umi» .0 in
       let es = map eventOf c in
       let b = after pre post (g .«tie_rule») es in
-      line-length i (columnCall g c) (length c) (builderOfColumn g c .observations) h (call-quality (columnCall g c) (is-true _ (good-calls pre b .call))) k
+      line-length i (columnCall g c) (builderOfColumn g c .observations) h (call-quality (columnCall g c) (is-true _ (good-calls pre b .call)))
       (laws pre post (g .«tie_rule») es .most)
 
-  -- of all of them, which take at most 65,536 bytes
-  pub columns-length : (i : ℕ) (cs : List (List Observation)) → i + length cs ≤ 100000 → columnsSize cs ≤ longestFile → length (textOf (columnLines i g cs)) ≤ 70 * length cs
-  unfolding columnLines columnsSize
-  columns-length i [] h k = omega arith
-  columns-length i (c ∷ cs) h k =
-      rw (length-append) (omega (arith, column-length i c (omega arith) (omega arith), columns-length (i + 1) cs (omega arith) (omega arith)))
+  -- of all of them
+  pub columns-length : (i : ℕ) (cs : List (List Observation)) → i + length cs ≤ 100000 → length (textOf (columnLines i g cs)) ≤ 70 * length cs
+  unfolding columnLines
+  columns-length i [] h = omega arith
+  columns-length i (c ∷ cs) h =
+      rw (length-append) (omega (arith, column-length i c (omega arith), columns-length (i + 1) cs (omega arith)))
 
 -- of the last line
 pub umi-length : (text : List ℕ) (flag : Bool) → length (umiLine text flag) ≤ 11 + length text
@@ -113,7 +110,7 @@ text-length s f u e =
     let n = file-size s f e in
     let two = two-each (f .columns) in
     rw (text-parts f u)
-    (simp length-append (omega (arith, columns-length (f .settings) 1 (f .columns) (omega arith) (omega arith), umi-length (u .text) (u .hadErrors))))
+    (simp length-append (omega (arith, columns-length (f .settings) 1 (f .columns) (omega arith), umi-length (u .text) (u .hadErrors))))
 
 -- and so by the places, with a string of at most 255 bytes
 pub places-length : (s : List ℕ) (p : Places) (a : FileAt (readFile s) p) (u : Found) → length (u .text) ≤ 255

@@ -24,7 +24,7 @@ use Rattle.column_file.specs.declared.settings.Settings.{Settings}
 use Rattle.column_file.specs.Format.{Observation}
 use Rattle.column_file.specs.Reading.{File}
 use Rattle.column_calls.specs.Columns.{builderOfColumn, columnCall}
-use Rattle.listing_lines.specs.Lines.{header, lineOf, columnLine, columnLines, flag, umiLine}
+use Rattle.listing_lines.specs.Lines.{header, depthOf, lineOf, columnLine, columnLines, flag, umiLine}
 use Rattle.column_listing.specs.Listing.{linesOf}
 use Rattle.column_listing_laws.specs.Laws.{isNewline, isLine, lineAt, OneLineEach}
 
@@ -65,11 +65,11 @@ call-plain c h =
 
 -- ---- the lines of a file
 
-line-of : (i : ℕ) (call : Call) (depth : ℕ) (counts : List ℕ) → isCall call ≡ true → isLine (lineOf i call depth counts) ≡ true
+line-of : (i : ℕ) (call : Call) (counts : List ℕ) → isCall call ≡ true → isLine (lineOf i call counts) ≡ true
 unfolding lineOf
-line-of i call depth counts h =
+line-of i call counts h =
     line-one
-    (decimal i ∷ (call .base ∷ []) ∷ decimal (call .qual .0) ∷ decimal depth
+    (decimal i ∷ (call .base ∷ []) ∷ decimal (call .qual .0) ∷ decimal (depthOf counts)
     ∷ decimal (counted counts 0) ∷ decimal (counted counts 1) ∷ decimal (counted counts 2) ∷ decimal (counted counts 3) ∷ []) (
       decimal-plain i,
       (
@@ -77,7 +77,7 @@ line-of i call depth counts h =
         (
           decimal-plain (call .qual .0),
           (
-            decimal-plain depth,
+            decimal-plain (depthOf counts),
             (decimal-plain (counted counts 0), (decimal-plain (counted counts 1), (decimal-plain (counted counts 2), (decimal-plain (counted counts 3), tt)))),
           ),
         ),
@@ -87,7 +87,7 @@ line-of i call depth counts h =
 column-line : (i : ℕ) (g : Settings) (c : List Observation) → isLine (columnLine i g c) ≡ true
 unfolding columnLine columnCall
 column-line i g c =
-    line-of i (columnCall g c) (length c) (builderOfColumn g c .observations) (is-true _ (good-calls (g .«error_rate_pre_umi» .0) (builderOfColumn g c) .call))
+    line-of i (columnCall g c) (builderOfColumn g c .observations) (is-true _ (good-calls (g .«error_rate_pre_umi» .0) (builderOfColumn g c) .call))
 
 -- as many as there are columns, each of them one
 lines-count : (i : ℕ) (g : Settings) (cs : List (List Observation)) → length (columnLines i g cs) ≡ length cs

@@ -16,13 +16,13 @@ use Rattle.column_calls.proofs.Walk.{columns-more, columns-past, columns-none}
 use Rattle.column_records.specs.Records.{recordOf, recordsWith}
 
 -- 28 bytes each
-record-length : (c : ColumnCall) (depth n : ℕ) → length (recordOf c depth n) ≡ 28
+record-length : (c : ColumnCall) (n : ℕ) → length (recordOf c n) ≡ 28
 unfolding recordOf numberBytes
-record-length c depth n = refl
+record-length c n = refl
 
 pub records-length : (called : List Observation → ColumnCall) (cs : List (List Observation)) → length (recordsWith called cs) ≡ 28 * length cs
 unfolding recordsWith
-records-length called cs = joined-length _ 28 (λ c. record-length (called c) (length c) (length c)) cs
+records-length called cs = joined-length _ 28 (λ c. record-length (called c) (length c)) cs
 
 -- n columns from a place on, by what is called of each
 module _ (called : List Observation → ColumnCall) (s : List ℕ) (at n : ℕ) where
@@ -33,7 +33,7 @@ module _ (called : List Observation → ColumnCall) (s : List ℕ) (at n : ℕ) 
   -- one column more: its record, and those of the columns after it
   pub records-more : (start k : ℕ) → 0 < n → columnAt s at ≡ At start k
       → left
-      ≡ recordOf (called (observationsIn (take (start + 2 * k - start) (drop start s)))) k k
+      ≡ recordOf (called (observationsIn (take (start + 2 * k - start) (drop start s)))) k
       ++ recordsWith called (columnsAt s (start + 2 * k) (n - 1))
   unfolding recordsWith
   records-more start k h e =

@@ -9,21 +9,22 @@ use Rattle.refusals.specs.Result.{Result, accepted, andThen}
 use Rattle.column_file.specs.Format.{Observation}
 use Rattle.judged_file.specs.Judged.{judgeFile}
 use Rattle.column_calls.specs.declared.columns.ColumnCall.{ColumnCall}
-use Rattle.column_calls.specs.Columns.{calledColumn, depthOf}
+use Rattle.column_calls.specs.Columns.{calledColumn}
+use Rattle.listing_lines.specs.Lines.{depthOf}
 use Rattle.column_listing.specs.Answers.{roomForText}
 
 -- a record of 28 bytes: base, quality, two zeros, depth, four counts, and how many of n observations were not counted
-unfoldable pub recordOf : ColumnCall → ℕ → ℕ → List ℕ
-recordOf c depth n =
+unfoldable pub recordOf : ColumnCall → ℕ → List ℕ
+recordOf c n =
     let counts = c .counts in
     (c .call .base ∷ c .call .qual .0 ∷ 0 ∷ 0 ∷ [])
-    ++ (fourBytes depth
+    ++ (fourBytes (depthOf counts)
     ++ (fourBytes (counted counts 0) ++ (fourBytes (counted counts 1) ++ (fourBytes (counted counts 2) ++ (fourBytes (counted counts 3)
     ++ fourBytes (n - total counts))))))
 
 -- of columns, one after another, by what is called of each
 unfoldable pub recordsWith : (List Observation → ColumnCall) → List (List Observation) → List ℕ
-recordsWith called = joined (λ c. recordOf (called c) (depthOf c) (length c))
+recordsWith called = joined (λ c. recordOf (called c) (length c))
 
 -- of a file, or the number by which it is refused
 unfoldable pub recordsOf : List ℕ → Result (List ℕ)

@@ -5,7 +5,6 @@ ghost use lib.ListN.{length};
 ghost use Rattle.refusals.specs.Refusals.{numberIn};
 ghost use Rattle.string_set.specs.Readers.{longestFile};
 ghost use Rattle.unanimous_shortcut.specs.Unanimous.{tablesOf};
-ghost use Rattle.base_builder.specs.Builder.{total as totalOf};
 ghost use Rattle.lent_text.specs.Printed.{Printed};
 ghost use Rattle.column_file.specs.Places.{columnsAt};
 ghost use Rattle.column_calls.specs.Columns.{calledColumn};
@@ -30,10 +29,9 @@ use refusals::Refusal;
 use widths::u32_as_u64;
 
 // How many of n observations were not counted.
-fn ignored(n: u64, counts: [u32; 4]) -> u64
-    ensures { λ r. ⌜ r ≡ n - totalOf counts ⌝ }
+fn ignored(n: u64, counted: u64) -> u64
+    ensures { λ r. ⌜ r ≡ n - counted ⌝ }
 {
-    let counted = total(counts);
     if n <= counted {
         return 0;
     }
@@ -41,12 +39,13 @@ fn ignored(n: u64, counts: [u32; 4]) -> u64
 }
 
 // A record of a column of n observations.
-fn put_record(out: &mut [u8], at: usize, called: ColumnCall, depth: u64, n: u64) -> usize
-    ensures { λ r. ⌜ Printed (now (out .entry)) at (recordOf called depth n) (now (out .exit)) r ⌝ }
+fn put_record(out: &mut [u8], at: usize, called: ColumnCall, n: u64) -> usize
+    ensures { λ r. ⌜ Printed (now (out .entry)) at (recordOf called n) (now (out .exit)) r ⌝ }
 {
     let call = called.call;
     let qual = call.qual;
     let counts = called.counts;
+    let depth = total(counts);
     let quality = put_byte(out, at, call.base);
     let zero = put_byte(out, quality, qual.0);
     let other = put_byte(out, zero, 0);
@@ -56,7 +55,7 @@ fn put_record(out: &mut [u8], at: usize, called: ColumnCall, depth: u64, n: u64)
     let g = put_four(out, c, u32_as_u64(counts[1]));
     let t = put_four(out, g, u32_as_u64(counts[2]));
     let rest = put_four(out, t, u32_as_u64(counts[3]));
-    put_four(out, rest, ignored(n, counts))
+    put_four(out, rest, ignored(n, depth))
 }
 
 // A record for each column.
@@ -83,7 +82,7 @@ fn put_records(
         };
         let end = first + 2 * n;
         let called = call_column(&file[first..end], start, rows, thresholds, cerr_min, cap);
-        place = put_record(out, place, called, n as u64, n as u64);
+        place = put_record(out, place, called, n as u64);
         column = end;
         left -= 1;
     }

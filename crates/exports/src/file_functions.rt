@@ -27,8 +27,8 @@ pub extern "C" fn consensus_listing(file: &[u8], out: &mut [u8]) -> u64
 }
 
 // For each column 28 bytes, numbers low byte first: base, quality, two zeros, and four bytes each for the
-// depth, the counts of A, C, G and T, and how many observations were ignored. The reply is as that of
-// `consensus_listing`.
+// depth (the sum of the four counts), the counts of A, C, G and T, and how many observations were ignored.
+// The reply is as that of `consensus_listing`.
 #[no_mangle]
 pub extern "C" fn consensus_records(file: &[u8], out: &mut [u8]) -> u64
     ensures reply { λ r. ⌜ r ≡ listingReply (recordsIn (now (file .entry)) (now (out .entry))) ⌝ }

@@ -1,6 +1,6 @@
 -- The lines of a listing: a line from what is put one after another, and the lines one column at a time. Assumes nothing.
-use mathlib.Core.Path.{_≡_, refl, sym, _∙_, ap}
-use mathlib.Core.List.{List, [], _∷_, _++_, append-assoc, append-nil}
+use mathlib.Core.Path.{_≡_, refl}
+use mathlib.Core.List.{List, [], _∷_, _++_, append-assoc}
 use Prim.Native.Nat.{ℕ, _+_, _-_, _*_, _≤_, _<_}
 use lib.ListN.{length, take, drop}
 use Rattle.tie_rules.specs.Lanes.{counted}
@@ -9,12 +9,12 @@ use Rattle.lent_text.specs.Text.{decimal, space, newline}
 use Rattle.column_file.specs.declared.columns.ColumnPlace.the-variants.{At, Past}
 use Rattle.column_file.specs.Format.{Observation}
 use Rattle.column_file.specs.Places.{columnAt, columnsAt}
-use Rattle.column_file.proofs.ColumnWalk.{observations-length, column-inside}
+use Rattle.column_file.proofs.ColumnWalk.{column-inside}
 use Rattle.column_calls.specs.declared.columns.ColumnCall.{ColumnCall}
 use Rattle.column_calls.specs.Tables.{observationsIn}
 use Rattle.column_calls.proofs.Bytes.{part-observations}
 use Rattle.column_calls.proofs.Walk.{columns-more, columns-past, columns-none}
-use Rattle.listing_lines.specs.Lines.{lineOf, textOf}
+use Rattle.listing_lines.specs.Lines.{depthOf, lineOf, textOf}
 use Rattle.listing_lines.specs.Tables.{lineWith, linesWith}
 
 -- a further field: a space and a number
@@ -31,10 +31,10 @@ fields : (a c g t e : List ℕ)
 fields a c g t e = simp append-assoc
 
 -- a line: the number, a space, the base, the quality, the depth, the counts, a newline
-pub line-puts : (i : ℕ) (call : Call) (depth : ℕ) (ns : List ℕ)
-    → decimal i ++ ((space ∷ []) ++ ((call .base ∷ []) ++ (field (call .qual .0) ++ (field depth ++ (counts ns ++ (newline ∷ [])))))) ≡ lineOf i call depth ns
+pub line-puts : (i : ℕ) (call : Call) (ns : List ℕ)
+    → decimal i ++ ((space ∷ []) ++ ((call .base ∷ []) ++ (field (call .qual .0) ++ (field (depthOf ns) ++ (counts ns ++ (newline ∷ [])))))) ≡ lineOf i call ns
 unfolding lineOf
-line-puts i call depth ns =
+line-puts i call ns =
     rw (fields (decimal (counted ns 0)) (decimal (counted ns 1)) (decimal (counted ns 2)) (decimal (counted ns 3)) (newline ∷ []))
 
 -- a column that is found lies in the file
@@ -50,11 +50,11 @@ module _ (called : List Observation → ColumnCall) (s : List ℕ) (at n i : ℕ
   -- one column more: its line, and those of the columns after it
   pub lines-more : (start k : ℕ) → 0 < n → columnAt s at ≡ At start k
       → left
-      ≡ lineWith i (called (observationsIn (take (start + 2 * k - start) (drop start s)))) k
+      ≡ lineWith i (called (observationsIn (take (start + 2 * k - start) (drop start s))))
       ++ textOf (linesWith called (i + 1) (columnsAt s (start + 2 * k) (n - 1)))
   unfolding linesWith
   lines-more start k h e =
-      rw (columns-more s at n start k h e, observations-length s start k, part-observations s start k (column-fits s at start k e))
+      rw (columns-more s at n start k h e, part-observations s start k (column-fits s at start k e))
 
   -- none more: the bytes do not reach
   pub lines-past : columnAt s at ≡ Past → left ≡ []

@@ -4,17 +4,16 @@ use mathlib.Core.Bool.{Bool}
 use mathlib.Core.List.{List, [], _∷_, _++_}
 use Rattle.column_file.specs.Format.{Observation}
 use Rattle.column_calls.specs.declared.columns.ColumnCall.{ColumnCall}
-use Rattle.column_calls.specs.Columns.{depthOf}
 use Rattle.listing_lines.specs.Lines.{header, lineOf, umiLine, textOf}
 
--- the line of column number i, by what is called of it and its depth
-abbrev pub lineWith : ℕ → ColumnCall → ℕ → List ℕ
-lineWith i c depth = lineOf i (c .call) depth (c .counts)
+-- the line of column number i, by what is called of it
+abbrev pub lineWith : ℕ → ColumnCall → List ℕ
+lineWith i c = lineOf i (c .call) (c .counts)
 
 -- the lines of columns, numbered from i on
 unfoldable pub linesWith : (List Observation → ColumnCall) → ℕ → List (List Observation) → List (List ℕ)
 linesWith called i [] = []
-linesWith called i (c ∷ cs) = lineWith i (called c) (depthOf c) ∷ linesWith called (i + 1) cs
+linesWith called i (c ∷ cs) = lineWith i (called c) ∷ linesWith called (i + 1) cs
 
 -- the whole text
 unfoldable pub textWith : (List Observation → ColumnCall) → List (List Observation) → List ℕ → Bool → List ℕ

@@ -10,6 +10,7 @@ ghost use Rattle.column_calls.specs.Tables.{columnCallWith};
 ghost use Rattle.listing_lines.specs.Lines.{umiLine, textOf, refusalLine};
 ghost use Rattle.listing_lines.specs.Tables.{lineWith, linesWith, textWith};
 use base_builder::ConsensusBaseBuilder;
+use base_builder::total;
 use column_calls::ColumnCall;
 use column_calls::call_column;
 use column_file::ColumnPlace;
@@ -39,8 +40,8 @@ fn put_counts(out: &mut [u8], at: usize, counts: [u32; 4]) -> usize
     put_field(out, g, u32_as_u64(counts[3]))
 }
 
-fn put_line(out: &mut [u8], at: usize, number: u64, called: ColumnCall, depth: u64) -> usize
-    ensures { λ r. ⌜ Printed (now (out .entry)) at (lineWith number called depth) (now (out .exit)) r ⌝ }
+fn put_line(out: &mut [u8], at: usize, number: u64, called: ColumnCall) -> usize
+    ensures { λ r. ⌜ Printed (now (out .entry)) at (lineWith number called) (now (out .exit)) r ⌝ }
 {
     let call = called.call;
     let counts = called.counts;
@@ -50,7 +51,7 @@ fn put_line(out: &mut [u8], at: usize, number: u64, called: ColumnCall, depth: u
     let b = put_byte(out, a, b' ');
     let c = put_byte(out, b, base);
     let d = put_field(out, c, u8_as_u64(qual.0));
-    let e = put_field(out, d, depth);
+    let e = put_field(out, d, total(counts));
     let f = put_counts(out, e, counts);
     put_byte(out, f, b'\n')
 }
@@ -75,13 +76,13 @@ fn put_lines(
     let mut place = at;
     while number < count {
         let next = column_at(file, column);
-        let ColumnPlace::At(first, depth) = next else {
+        let ColumnPlace::At(first, n) = next else {
             return place;
         };
-        let end = first + 2 * depth;
+        let end = first + 2 * n;
         let called = call_column(&file[first..end], start, rows, thresholds, cerr_min, cap);
         number += 1;
-        place = put_line(out, place, number as u64, called, depth as u64);
+        place = put_line(out, place, number as u64, called);
         column = end;
     }
     place

@@ -28,8 +28,8 @@ const HEAD: &str = "files | how many | calls: list | listed | 1 | 2 | 3 | 4 | 7 
 /// What is printed of all.
 const TOLD: [&str; 3] = [
     "files: {columns} columns listed, {columns called N} of them called N, {empty columns} of them \
-     empty, {columns by the rule} called otherwise under the other rule; at most {most columns} in a \
-     file, of depth {deepest} at most",
+     empty, {columns with others} with bytes that are no base, {columns by the rule} called otherwise \
+     under the other rule; at most {most columns} in a file, of {most observations} observations at most",
     "files: of {listed} texts, {the flag} with the flag, {an empty string} with an empty string, {a byte \
      of 128 or more} with a byte of 128 or more in it",
     "files: {pre rates} pre rates and {post rates} post rates in {pairs of rates} pairs; {FgbioCompat} \
@@ -38,7 +38,7 @@ const TOLD: [&str; 3] = [
 
 /// What must have been demanded: without it the files do not show what they are to show.
 const DEMANDED: &str = "1 | 2 | 3 | 4 | 7 | 8 | 9 | a column called N | a column called otherwise | \
-                        empty columns | columns by the rule | the flag | no flag | an empty string | \
+                        empty columns | columns with others | columns by the rule | the flag | no flag | an empty string | \
                         a byte of 128 or more | FgbioCompat | UlpRelative | each rate on either side";
 
 /// What the rates decide: an observation alone, an agreement of two and a dispute, and one at which a
@@ -250,7 +250,8 @@ impl Row {
     fn count_listed(&mut self, Listed { file, lines, umi }: &Listed) {
         let many =
             |is: fn(&listing::Line) -> bool| lines.iter().filter(|line| is(line)).count() as u64;
-        let (called_n, empty) = (many(|line| line.call.0 == b'N'), many(|line| line.depth == 0));
+        let called_n = many(|line| line.call.0 == b'N');
+        let empty = many(|line| line.observations == 0);
         let counts = &mut self.counts;
         counts.one("listed");
         counts.add("columns", lines.len() as u64);
@@ -258,8 +259,10 @@ impl Row {
         counts.add("empty columns", empty);
         counts.add("a column called N", called_n - empty);
         counts.add("a column called otherwise", lines.len() as u64 - called_n);
+        counts.add("columns with others", many(|line| line.ignored() > 0));
         counts.add("columns by the rule", by_the_rule(file));
-        counts.most("deepest", lines.iter().map(|line| line.depth).max().unwrap_or(0));
+        let observations = lines.iter().map(|line| line.observations as usize);
+        counts.most("most observations", observations.max().unwrap_or(0));
         counts.most("most columns", lines.len());
         counts.add("the flag", umi.flags[0]);
         counts.add("no flag", !umi.flags[0]);

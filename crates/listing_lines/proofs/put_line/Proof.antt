@@ -12,7 +12,7 @@ whole c =
     let end = c .before .before in
     let counts = end .before .before .before .before in
     let depth = counts .before .before .before .before in
-    let quality = depth .before .before .before .before in
+    let quality = depth .before .before .before .before .before in
     let base = quality .before .before .before .before .before in
     let gap = base .before .before .before .before in
     let number = gap .before .before .before .before in
@@ -22,9 +22,9 @@ whole c =
     (print-then (gap .put-byte .ensures)
     (print-then (base .put-byte2 .ensures)
     (print-then (printed-as (quality .put-field .ensures) (ap field (quality .before .u8-as-u64 .ensures .0)))
-    (print-then (depth .put-field2 .ensures)
+    (print-then (printed-as (depth .put-field2 .ensures) (ap field (depth .before .total .ensures)))
     (print-then (counts .put-counts .ensures) (end .put-byte3 .ensures)))))))
-    (line-puts (a .number) (a .called .call) (a .depth) (a .called .counts))
+    (line-puts (a .number) (a .called .call) (a .called .counts))
 
 same-length : tie.Need-same-length
 same-length c = printed-length (whole c)
@@ -37,6 +37,6 @@ put-line-spec =
     tie.close
     (tie.spec
     (λ c κs. tt) (λ c κs. tt) (λ c κs. tt) (λ c κs. tt)
-    (λ c κs. tt) (λ c κs. tt) (λ c κs. tt) (λ c κs. tt)
+    (λ c κs. tt) (λ c κs. tt) (λ c κs. tt) (λ c κs. tt) (λ c κs. tt)
     same-length
     returns)

@@ -18,6 +18,9 @@ const START: [u8; 4] = [3, 90, 90, 0];
 /// How many bytes the settings and the other counts are.
 const BESIDE_COLUMNS: usize = 7;
 
+/// The most observations that a file has room for in one column.
+const DEEPEST: usize = (LONGEST - BESIDE_COLUMNS - 2) / 2;
+
 pub fn rows() -> Vec<Row> {
     let of_sample = |name, files: Vec<Made>| row(&format!("the sample, {name}"), files);
     vec![
@@ -31,6 +34,7 @@ pub fn rows() -> Vec<Row> {
         row("all: settings, up to 7 bytes of 0, 1, A", all(&START, &[0, 1, b'A'], 7)),
         row("all: a string of A and any byte", any_string()),
         row("every byte at every quality", every_observation()),
+        depths(),
     ]
 }
 
@@ -62,14 +66,14 @@ pub fn listed() -> Vec<(Vec<u8>, &'static str)> {
         Parts::new(Settings { pre: 90, post, rule: 0 }, columns, strings).bytes()
     };
     vec![
-        (SAMPLE.to_vec(), "1 N 2 0 0 0 0 0\n2 N 2 3 1 1 0 0\numi AN true\n"),
+        (SAMPLE.to_vec(), "1 N 2 0 0 0 0 0\n2 N 2 2 1 1 0 0\numi AN true\n"),
         (
             file(0, Some(&[(b'A', 30), (b'C', 0)]), &["ACGT", "ACGA"]),
             "1 C 2 2 1 1 0 0\numi ACGN true\n",
         ),
         (
             file(90, Some(&[(b'N', 30), (b'-', 30)]), &["A-T", "A-T"]),
-            "1 N 2 2 0 0 0 0\numi A-T false\n",
+            "1 N 2 0 0 0 0 0\numi A-T false\n",
         ),
         (file(90, None, &["N", "A"]), "umi A true\n"),
         (file(90, None, &["", ""]), "umi  false\n"),
@@ -77,6 +81,29 @@ pub fn listed() -> Vec<(Vec<u8>, &'static str)> {
         (file(90, None, &["acgt", "acgt"]), "umi ACGT true\n"),
         (file(90, None, &["A", "AC"]), "umi A true\n"),
     ]
+}
+
+/// Depth by the bytes alone, whatever was counted: A, C, G and T in either case are all of it. Each
+/// byte in a column of its own, all of them in one, and as many N as there is room for.
+fn depths() -> Row {
+    let is_base = |byte: &u8| b"ACGTacgt".contains(byte);
+    let bytes: Vec<u8> = (0..=u8::MAX).collect();
+    let columns = [bytes.chunks(1).collect(), vec![&bytes[..]], vec![&[b'N'; DEEPEST]]];
+    let mut row = Row::new("depth by the bytes");
+    for columns in columns {
+        let depth = |bytes: &&[u8]| bytes.iter().filter(|byte| is_base(byte)).count();
+        let depths: Vec<String> = columns.iter().map(|bytes| depth(bytes).to_string()).collect();
+        let observed = |bytes: &&[u8]| bytes.iter().map(|byte| (*byte, 30)).collect();
+        let made = Parts::new(TYPICAL, columns.iter().map(observed).collect(), vec![]).listed();
+        row.compare_file(&made);
+        let listed = found_in(&made.bytes).map(|found| String::from_utf8(text_of(&found).bytes));
+        let text = listed.ok().and_then(Result::ok).unwrap_or_default();
+        let lines = text.lines().skip(1).take(depths.len());
+        if !lines.map(|line| line.split(' ').nth(3).unwrap_or_default()).eq(&depths) {
+            row.file_differs(&made.bytes, "the depths are not those of the bytes");
+        }
+    }
+    row
 }
 
 /// The small inputs of the table; a string set is the last section of a file without columns.

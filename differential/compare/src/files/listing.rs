@@ -14,12 +14,25 @@ use crate::exports;
 use crate::umis::rust::{Given, found};
 use crate::umis::set::{DEFAULTS, Function as UmiFunction, TOO_SHORT};
 
-/// What is said of a column: its call, its depth, and how often each base was counted.
+/// What is said of a column: its call, how often each base was counted, and how many observations the
+/// file has of it.
 #[derive(Clone, Copy)]
 pub struct Line {
     pub call: report::Call,
-    pub depth: usize,
     pub counts: [u32; 4],
+    pub observations: u32,
+}
+
+impl Line {
+    /// The bases that contributed: all that the Rust counted.
+    fn depth(&self) -> u32 {
+        self.counts.iter().sum()
+    }
+
+    /// The other observations.
+    pub fn ignored(&self) -> u32 {
+        self.observations - self.depth()
+    }
 }
 
 /// A file that meets no condition, its columns, and the consensus of its strings.
@@ -55,7 +68,7 @@ pub fn lines(
     file.columns.iter().map(move |column| {
         observe(column, &mut builder);
         let counts = builder.all_observations();
-        Line { call: call(&builder), depth: column.len() / 2, counts }
+        Line { call: call(&builder), counts, observations: column.len() as u32 / 2 }
     })
 }
 
@@ -71,8 +84,10 @@ pub fn observe(column: &[u8], builder: &mut ConsensusBaseBuilder) {
 /// it may be no text.
 pub fn write(lines: impl Iterator<Item = Line>, string: &[u8], flag: bool, text: &mut Vec<u8>) {
     text.extend(b"column base quality depth A C G T\n");
-    for (place, Line { call: (base, quality), depth, counts: [a, c, g, t] }) in lines.enumerate() {
-        writeln!(text, "{} {} {quality} {depth} {a} {c} {g} {t}", place + 1, base as char)
+    for (place, line) in lines.enumerate() {
+        let Line { call: (base, quality), counts: [a, c, g, t], .. } = line;
+        let (base, depth) = (base as char, line.depth());
+        writeln!(text, "{} {base} {quality} {depth} {a} {c} {g} {t}", place + 1)
             .expect("memory takes what is written");
     }
     text.extend(b"umi ");
@@ -88,12 +103,11 @@ fn text(Listed { lines, umi, .. }: &Listed) -> Vec<u8> {
 
 /// 28 bytes for each column: its line without the number, and how many observations were not counted.
 fn records(listed: &Listed) -> Vec<u8> {
-    let record = |Line { call: (base, quality), depth, counts }: &Line| {
-        let depth = *depth as u32;
-        let ignored = depth - counts.iter().sum::<u32>();
-        let numbers = [&[depth][..], counts, &[ignored]].concat();
+    let record = |line: &Line| {
+        let (base, quality) = line.call;
+        let numbers = [&[line.depth()][..], &line.counts, &[line.ignored()]].concat();
         let numbers = numbers.into_iter().flat_map(u32::to_le_bytes);
-        [*base, *quality, 0, 0].into_iter().chain(numbers).collect::<Vec<u8>>()
+        [base, quality, 0, 0].into_iter().chain(numbers).collect::<Vec<u8>>()
     };
     listed.lines.iter().flat_map(record).collect()
 }

@@ -73,7 +73,7 @@ loop-again c =
     let s = a .file .now in
     let called = columnCallWith (a .rows .now) (a .start) (tablesOf (a .thresholds .now) (a .cerr-min .now) (a .cap)) in
     let end = n .0 .0 + 2 * n .0 .1 .0 in
-    let one = recordOf (called (observationsIn (take (end - n .0 .0) (drop (n .0 .0) s)))) (n .0 .1 .0) (n .0 .1 .0) in
+    let one = recordOf (called (observationsIn (take (end - n .0 .0) (drop (n .0 .0) s)))) (n .0 .1 .0) in
     let e = sym (at-next .before .before .column-at .ensures .0) ∙ n .1 in
     let p : Printed (l .out) (l .place) one (put .put-record .last .0) (put .put-record .result) =
     rw (← called-at .call-column .ensures) (put .put-record .ensures) in (

@@ -1,0 +1,22 @@
+-- The depth of a column, by the bytes of its observations.
+use mathlib.Core.Path.{_≡_}
+use mathlib.Core.List.{List}
+use Prim.Native.Nat.{_≤_}
+use lib.ListN.{length}
+use Rattle.words.specs.Lists.{keep}
+use Rattle.tie_rules.specs.Lanes.{isBase}
+use Rattle.base_builder.specs.Builder.{fullCount}
+use Rattle.column_file.specs.declared.settings.Settings.{Settings}
+use Rattle.column_file.specs.Format.{Observation}
+use Rattle.column_calls.specs.Columns.{builderOfColumn, calledColumn}
+use Rattle.listing_lines.specs.Lines.{depthOf}
+
+-- the observations of a base, A, C, G or T in either case
+abbrev pub contributing : List Observation → List Observation
+contributing c = keep (λ o. isBase (o .base)) c
+
+pub record DepthLaws (g : Settings) (c : List Observation) : Type 0 where
+  -- the depth is how many they are; a column of a file has at most 65,535 observations
+  pub depth : length c ≤ fullCount → depthOf (builderOfColumn g c .observations) ≡ length (contributing c)
+  -- without the others the column has the same call and the same counts
+  pub others : calledColumn g c ≡ calledColumn g (contributing c)
