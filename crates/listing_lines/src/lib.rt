@@ -47,11 +47,12 @@ fn put_line(out: &mut [u8], at: usize, number: u64, called: ColumnCall) -> usize
     let counts = called.counts;
     let base = call.base;
     let qual = call.qual;
+    let depth = total(counts);
     let a = put_decimal(out, at, number);
     let b = put_byte(out, a, b' ');
     let c = put_byte(out, b, base);
     let d = put_field(out, c, u8_as_u64(qual.0));
-    let e = put_field(out, d, total(counts));
+    let e = put_field(out, d, depth);
     let f = put_counts(out, e, counts);
     put_byte(out, f, b'\n')
 }

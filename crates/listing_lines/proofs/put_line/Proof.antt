@@ -12,17 +12,18 @@ whole c =
     let end = c .before .before in
     let counts = end .before .before .before .before in
     let depth = counts .before .before .before .before in
-    let quality = depth .before .before .before .before .before in
+    let quality = depth .before .before .before .before in
     let base = quality .before .before .before .before .before in
     let gap = base .before .before .before .before in
     let number = gap .before .before .before .before in
-    let a = number .before .before .before .before .before .before .args in
+    let counted = number .before .before in
+    let a = counted .before .before .before .before .before .args in
     printed-as
     (print-then (number .put-decimal .ensures)
     (print-then (gap .put-byte .ensures)
     (print-then (base .put-byte2 .ensures)
     (print-then (printed-as (quality .put-field .ensures) (ap field (quality .before .u8-as-u64 .ensures .0)))
-    (print-then (printed-as (depth .put-field2 .ensures) (ap field (depth .before .total .ensures)))
+    (print-then (printed-as (depth .put-field2 .ensures) (ap field (counted .total .ensures)))
     (print-then (counts .put-counts .ensures) (end .put-byte3 .ensures)))))))
     (line-puts (a .number) (a .called .call) (a .called .counts))
 
