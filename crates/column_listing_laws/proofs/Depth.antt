@@ -18,8 +18,11 @@ use Rattle.base_builder_laws.specs.Counted.{CountedObservation, countedSince}
 use Rattle.base_builder_laws.proofs.Laws.{laws}
 use Rattle.column_file.specs.declared.settings.Settings.{Settings}
 use Rattle.column_file.specs.Format.{Observation}
+use Rattle.column_file.specs.Places.{columnsSize}
+use Rattle.column_file.proofs.Files.{columns-inside, file-size}
 use Rattle.column_calls.specs.Columns.{eventOf, startOf, builderOfColumn, columnCall, calledColumn}
-use Rattle.column_listing_laws.specs.Depth.{contributing, DepthLaws}
+use Rattle.listing_lines.specs.Lines.{depthOf}
+use Rattle.column_listing_laws.specs.Depth.{contributing, DepthLaws, FileDepths}
 
 -- counted after those of os
 counted-more : (c : List Observation) (os : List CountedObservation) → length os + length c ≤ fullCount
@@ -57,3 +60,13 @@ depth-laws g c =
       depth = λ h. omega (arith, laws pre post (g .«tie_rule») (map eventOf c) .together, counted-more c [] (omega arith));
       others = rw (bases-alone (adjustedTables post) c (startOf g));
     }
+
+-- of columns whose bytes are no more than a builder counts
+each-depth : (g : Settings) (cs : List (List Observation)) → columnsSize cs ≤ fullCount
+    → map (λ c. depthOf (builderOfColumn g c .observations)) cs ≡ map (λ c. length (contributing c)) cs
+unfolding columnsSize
+each-depth g [] h = refl
+each-depth g (c ∷ cs) h = rw (depth-laws g c .depth (omega arith), each-depth g cs (omega arith))
+
+pub file-depths : FileDepths
+file-depths s f e = each-depth (f .settings) (f .columns) (omega (arith, columns-inside s f e, file-size s f e))

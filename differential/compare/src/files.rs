@@ -29,7 +29,8 @@ const HEAD: &str = "files | how many | calls: list | listed | 1 | 2 | 3 | 4 | 7 
 const TOLD: [&str; 3] = [
     "files: {columns} columns listed, {columns called N} of them called N, {empty columns} of them \
      empty, {columns with others} with bytes that are no base, {columns by the rule} called otherwise \
-     under the other rule; at most {most columns} in a file, of {most observations} observations at most",
+     under the other rule; at most {most columns} in a file, of {most observations} observations at \
+     most",
     "files: of {listed} texts, {the flag} with the flag, {an empty string} with an empty string, {a byte \
      of 128 or more} with a byte of 128 or more in it",
     "files: {pre rates} pre rates and {post rates} post rates in {pairs of rates} pairs; {FgbioCompat} \
@@ -38,8 +39,9 @@ const TOLD: [&str; 3] = [
 
 /// What must have been demanded: without it the files do not show what they are to show.
 const DEMANDED: &str = "1 | 2 | 3 | 4 | 7 | 8 | 9 | a column called N | a column called otherwise | \
-                        empty columns | columns with others | columns by the rule | the flag | no flag | an empty string | \
-                        a byte of 128 or more | FgbioCompat | UlpRelative | each rate on either side";
+                        empty columns | columns with others | columns by the rule | the flag | \
+                        no flag | an empty string | a byte of 128 or more | FgbioCompat | \
+                        UlpRelative | each rate on either side";
 
 /// What the rates decide: an observation alone, an agreement of two and a dispute, and one at which a
 /// post rate of 0 makes a lane infinite.
