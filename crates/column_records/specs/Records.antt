@@ -4,7 +4,6 @@ use mathlib.Core.List.{List, [], _∷_, _++_}
 use lib.ListN.{length}
 use Rattle.lent_bytes.specs.Bytes.{joined, fourBytes}
 use Rattle.tie_rules.specs.Lanes.{counted}
-use Rattle.base_builder.specs.Builder.{total}
 use Rattle.refusals.specs.Result.{Result, accepted, andThen}
 use Rattle.column_file.specs.Format.{Observation}
 use Rattle.judged_file.specs.Judged.{judgeFile}
@@ -13,14 +12,15 @@ use Rattle.column_calls.specs.Columns.{calledColumn}
 use Rattle.listing_lines.specs.Lines.{depthOf}
 use Rattle.column_listing.specs.Answers.{roomForText}
 
--- a record of 28 bytes: base, quality, two zeros, depth, four counts, and how many of n observations were not counted
+-- a record of 28 bytes: base, quality, two zeros, depth, four counts, and how many of n observations are not in the depth
 unfoldable pub recordOf : ColumnCall → ℕ → List ℕ
 recordOf c n =
     let counts = c .counts in
+    let depth = depthOf counts in
     (c .call .base ∷ c .call .qual .0 ∷ 0 ∷ 0 ∷ [])
-    ++ (fourBytes (depthOf counts)
+    ++ (fourBytes depth
     ++ (fourBytes (counted counts 0) ++ (fourBytes (counted counts 1) ++ (fourBytes (counted counts 2) ++ (fourBytes (counted counts 3)
-    ++ fourBytes (n - total counts))))))
+    ++ fourBytes (n - depth))))))
 
 -- of columns, one after another, by what is called of each
 unfoldable pub recordsWith : (List Observation → ColumnCall) → List (List Observation) → List ℕ
