@@ -1,5 +1,4 @@
 -- As it is run; `calls-with` (column_calls/proofs/Tables) joins it to `calledColumn`: with windows, tables and a first builder that are given.
-use Prim.Native.Nat.{ℕ}
 use mathlib.Core.List.{List, [], _∷_}
 use lib.Ieee.{Float}
 use Rattle.gap_tables.specs.declared.gaps.UnanimousGapTables.{UnanimousGapTables}
@@ -8,12 +7,6 @@ use Rattle.base_builder.specs.Calls.{callOf}
 use Rattle.observation_windows.specs.Windows.{windowAdded}
 use Rattle.column_file.specs.Format.{Observation}
 use Rattle.column_calls.specs.declared.columns.ColumnCall.{ColumnCall}
-
--- the observations in a column's bytes, base and quality in turn; a byte left over is none
-unfoldable pub observationsIn : List ℕ → List Observation
-observationsIn [] = []
-observationsIn (b ∷ []) = []
-observationsIn (b ∷ q ∷ r) = record { base = b; quality = q } ∷ observationsIn r
 
 -- the builder after a column's observations in their order
 unfoldable pub builderWith : List Float → ConsensusBaseBuilder → List Observation → ConsensusBaseBuilder

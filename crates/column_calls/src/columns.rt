@@ -1,8 +1,9 @@
 // The builder that each column starts from, and what is called of a column.
 ghost use mathlib.Core.Path.{_≡_};
 ghost use Rattle.unanimous_shortcut.specs.Unanimous.{tablesOf};
+ghost use Rattle.column_file.specs.Places.{observationsIn};
 ghost use Rattle.column_calls.specs.Columns.{startOf};
-ghost use Rattle.column_calls.specs.Tables.{observationsIn, columnCallWith};
+ghost use Rattle.column_calls.specs.Tables.{columnCallWith};
 use base_builder::ConsensusBaseBuilder;
 use base_builder::call_with;
 use column_file::Settings;

@@ -1,5 +1,6 @@
 pub mod Numbers
 pub mod ColumnWalk
+pub mod ColumnParts
 pub mod SettingsRead
 pub mod Sections
 pub mod FileRead

@@ -66,6 +66,12 @@ abbrev pub observationsAt : List ℕ → ℕ → ℕ → List Observation
 observationsAt s at zero = []
 observationsAt s at (suc n) = record { base = byteAt s at; quality = byteAt s (at + 1) } ∷ observationsAt s (at + 2) n
 
+-- the observations in a column's bytes, base and quality in turn; a byte left over is none
+unfoldable pub observationsIn : List ℕ → List Observation
+observationsIn [] = []
+observationsIn (b ∷ []) = []
+observationsIn (b ∷ q ∷ r) = record { base = b; quality = q } ∷ observationsIn r
+
 -- what f makes of where a column is, and nothing where the bytes do not reach
 abbrev pub placed : {A : Type 0} → (ℕ → ℕ → List A) → ColumnPlace → List A
 placed f column.Past = []

@@ -9,9 +9,6 @@ use lib.Dec.{leb, eqb}
 use lib.Ieee.Bits.{is-true}
 use lib.ListN.{length, length-append}
 use Rattle.words.proofs.Cases.{test, both}
-use Rattle.refusals.specs.declared.Refusal.{Refusal}
-use Rattle.refusals.specs.declared.Refusal.the-variants.{FileTooLong, CutOff, BadSettings, AbsentQuality, NoStrings, LengthsDiffer, NotAscii, UnlikeFirst, Mixed, BufferTooShort, FullBuilder}
-use Rattle.refusals.specs.Refusals.{numberOf}
 use Rattle.refusals.specs.Result.{accepted}
 use Rattle.lent_text.proofs.Decimal.{decimal-length}
 use Rattle.tie_rules.specs.Lanes.{counted}
@@ -28,7 +25,7 @@ use Rattle.column_file.specs.Format.{Observation}
 use Rattle.column_file.specs.Reading.{File, readFile}
 use Rattle.column_calls.specs.Columns.{eventOf, builderOfColumn, columnCall}
 use Rattle.column_file.proofs.Readings.{FileAt}
-use Rattle.listing_lines.specs.Lines.{lineOf, columnLine, columnLines, umiLine, textOf, refusalLine}
+use Rattle.listing_lines.specs.Lines.{lineOf, columnLine, columnLines, umiLine, textOf}
 use Rattle.column_listing.specs.Listing.{linesOf}
 use Rattle.column_listing.specs.Places.{placesText}
 use Rattle.column_file.proofs.Files.{two-each, columns-inside, file-size}
@@ -83,25 +80,6 @@ pub umi-length : (text : List ℕ) (flag : Bool) → length (umiLine text flag) 
 unfolding umiLine
 umi-length text true = simp length-append (omega arith)
 umi-length text false = simp length-append (omega arith)
-
--- the numbers of refusals
-number-small : (r : Refusal) → numberOf r < 100
-number-small FileTooLong = omega arith
-number-small CutOff = omega arith
-number-small BadSettings = omega arith
-number-small AbsentQuality = omega arith
-number-small NoStrings = omega arith
-number-small LengthsDiffer = omega arith
-number-small NotAscii = omega arith
-number-small UnlikeFirst = omega arith
-number-small Mixed = omega arith
-number-small BufferTooShort = omega arith
-number-small FullBuilder = omega arith
-
--- of a refused file's line
-pub refusal-length : (r : Refusal) → length (refusalLine r) ≤ 11
-unfolding refusalLine
-refusal-length r = simp length-append (omega (arith, decimal-length 2 (numberOf r) (omega arith) (number-small r)))
 
 -- of all lines of an accepted file
 pub text-length : (s : List ℕ) (f : File) (u : Found) → readFile s ≡ accepted f → length (textOf (linesOf f u)) ≤ 45 + 70 * length (f .columns) + length (u .text)

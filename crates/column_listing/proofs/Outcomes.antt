@@ -6,8 +6,7 @@ use Prim.Native.Nat.{ℕ, _≤_}
 use native.Mathlib.Omega.{arith}
 use borrow.Author.Tests.{not-true, not-false, le-leb, le-ltb, lt-ltb, leb-true, leb-false, ltb-true}
 use lib.Dec.{leb, ltb}
-use lib.ListN.{length, take, drop}
-use lib.Seq.{take-append-seam}
+use lib.ListN.{length}
 use lib.Ieee.{Float}
 use Rattle.words.proofs.Cases.{test, choice}
 use Rattle.lent_bytes.specs.Buffer.{lengthWritten, written}
@@ -18,6 +17,7 @@ use Rattle.refusals.specs.declared.Refusal.{Refusal}
 use Rattle.refusals.specs.declared.Refusal.the-variants.{BufferTooShort}
 use Rattle.refusals.specs.Refusals.{numberIn}
 use Rattle.refusals.specs.Result.{Result, refused, accepted, andThen}
+use Rattle.refusal_text.specs.RefusalText.{refusalLine, printed}
 use Rattle.rate_tables.specs.declared.adjusted.AdjustedProbabilityTables.{AdjustedProbabilityTables}
 use Rattle.gap_tables.specs.declared.gaps.UnanimousGapTables.{UnanimousGapTables}
 use Rattle.rate_tables.specs.Adjusted.{adjustedTables}
@@ -25,19 +25,19 @@ use Rattle.gap_tables.specs.Gaps.{gapTables}
 use Rattle.base_builder.specs.declared.builder.ConsensusBaseBuilder.{ConsensusBaseBuilder}
 use Rattle.observation_windows.specs.Windows.{windowsOf}
 use Rattle.column_file.specs.declared.file.Places.{Places}
+use Rattle.column_file.specs.Reading.{readFile}
 use Rattle.column_file.specs.Places.{columnsAt}
 use Rattle.judged_file.specs.Judged.{judgeFile}
 use Rattle.judged_file.proofs.Judged.{AcceptedAs, judged-at}
 use Rattle.column_calls.specs.Columns.{startOf}
 use Rattle.column_calls.specs.Tables.{columnCallWith}
 use Rattle.column_calls.proofs.Tables.{calls-with}
-use Rattle.listing_lines.specs.Lines.{refusalLine}
 use Rattle.listing_lines.specs.Tables.{textWith}
 use Rattle.column_listing.specs.declared.listing.Listing.{Listing}
 use Rattle.column_listing.specs.declared.listing.Listing.the-variants as listing
 use Rattle.column_listing.specs.declared.listing.Outcome.{Outcome}
 use Rattle.column_listing.specs.declared.listing.Outcome.the-variants as outcome
-use Rattle.column_listing.specs.Listing.{listedFile, printed, listingOf}
+use Rattle.column_listing.specs.Listing.{listedFile, listingOf}
 use Rattle.column_listing.specs.Answers.{roomForText, listedIn, listingAnswer, listingNumber, listingBuffer, outcomeOf}
 use Rattle.column_listing.specs.Places.{placesText}
 use Rattle.column_listing.proofs.Texts.{text-is}
@@ -79,20 +79,9 @@ module _ (t out u : List ℕ) (e : u ≡ t) (b : Bool) (k : b ≡ leb (length u)
       (rw (f, q .0), q .1)
 
 module _ (t out : List ℕ) where
-  -- the front of the buffer, where it fits
-  pub written-front : length t ≤ length out → take (length t) (written t out) ≡ t
-  unfolding written
-  written-front h = rw (le-leb (length t) (length out) h) (take-append-seam t (drop (length t) out))
-
   room-buffer : listingBuffer out (roomForText out t) ≡ written t out
   unfolding roomForText
   room-buffer = test (ltb (length out) (length t)) (λ e. rw e (short-written t out (ltb-true (length out) (length t) e))) (λ e. rw e)
-
--- the front of a buffer that a text was printed into
-pub printed-front : {o o1 t : List ℕ} {w : ℕ} → Printed o 0 t o1 w → length t ≤ length o → take w o1 ≡ t
-printed-front {o} {o1} {t} {w} p h =
-    let q = printed-written p h in
-    rw (q .0, q .1) (written-front t o h)
 
 -- ---- a file
 
@@ -100,6 +89,11 @@ module _ (s : List ℕ) where
   pub listed-refused : (r : Refusal) → judgeFile s ≡ refused r → listedFile s ≡ refused r
   unfolding listedFile
   listed-refused r e = rw e
+
+  -- refused when it is read
+  pub refused-listing : (r : Refusal) → readFile s ≡ refused r → listingOf s ≡ refusalLine r
+  unfolding listingOf listedFile judgeFile
+  refused-listing r e = rw e
 
   pub listed-accepted : (p : Places) (n : ℕ) (flag : Bool) (a : AcceptedAs (judgeFile s) p n flag)
       → listedFile s ≡ accepted (placesText p s (a .judged .found .text) (a .judged .found .hadErrors))
@@ -180,17 +174,3 @@ module _ (s out mid : List ℕ) (o : Outcome) (e : o ≡ outcomeOf out (listedFi
   print-written n h =
       let z : Ended out (listedFile s) (outcome.Written n) = subst (Ended out (listedFile s)) (sym e ∙ h) (by-outcome out (listedFile s)) in
       (z .0, k ∙ z .1)
-
--- a line put at the front of a buffer
-module _ (t out bs l : List ℕ) (n : ℕ) (b : Bool) (e : bs ≡ t) (k : n ≡ length t) (h : b ≡ leb (length bs) (length out)) (w : l ≡ written bs out) where
-  pub line-put : b ≡ true → (n ≡ lengthWritten t out) × (l ≡ written t out)
-  unfolding lengthWritten
-  line-put y =
-      let i : leb (length t) (length out) ≡ true = ap (λ (x : List ℕ). leb (length x) (length out)) (sym e) ∙ sym h ∙ y in
-      (rw i k, w ∙ ap (λ (x : List ℕ). written x out) e)
-
-  pub line-not-put : b ≡ false → (0 ≡ lengthWritten t out) × (l ≡ written t out)
-  unfolding lengthWritten
-  line-not-put y =
-      let i : leb (length t) (length out) ≡ false = ap (λ (x : List ℕ). leb (length x) (length out)) (sym e) ∙ sym h ∙ y in
-      (rw i, w ∙ ap (λ (x : List ℕ). written x out) e)

@@ -13,16 +13,15 @@ ghost use Rattle.column_calls.specs.Tables.{columnCallWith};
 ghost use Rattle.column_listing.specs.Listing.{listedFile, listingOf};
 ghost use Rattle.column_listing.specs.Answers.{listedIn, listingAnswer, listingNumber, listingBuffer, outcomeOf};
 ghost use Rattle.column_listing.specs.Places.{placesText};
-ghost use Rattle.listing_lines.specs.Lines.{refusalLine};
 ghost use Rattle.listing_lines.specs.Tables.{textWith};
 use base_builder::ConsensusBaseBuilder;
 use column_file::Places;
 use judged_file::Judgement;
 use judged_file::judge;
-use listing_lines::put_refusal;
 use listing_lines::put_text;
 use observation_windows::windows;
 use rate_tables::AdjustedProbabilityTables;
+use refusal_text::print_refusal;
 use refusals::Refusal;
 
 // Refused, or the length of the text.
@@ -156,19 +155,6 @@ pub fn list(file: &[u8], out: &mut [u8]) -> Listing
         Outcome::TooShort => Listing::Refused(Refusal::BufferTooShort),
         Outcome::Written(n) => Listing::Given(n),
     }
-}
-
-// The line of a refused file, where it fits.
-fn print_refusal(refusal: Refusal, out: &mut [u8]) -> usize
-    ensures reply { λ r. ⌜ r ≡ lengthWritten (refusalLine refusal) (now (out .entry)) ⌝ }
-    ensures lent { λ _. ⌜ now (out .exit) ≡ written (refusalLine refusal) (now (out .entry)) ⌝ }
-{
-    let mut aside = [0u8; 16];
-    let n = put_refusal(&mut aside, refusal);
-    if lent_bytes::write_front(out, &aside[..n]) {
-        return n;
-    }
-    0
 }
 
 // What the program prints for a file, the line of a refused one included, and how long it is; 0 where

@@ -35,11 +35,11 @@ line-after [] b h k = k
 line-after (x ∷ a) b h k = test (isNewline x) (λ e. clash (rw e at h) refl) (λ e. rw e (line-after a b (rw e at h) k))
 
 -- no field has one
-abbrev Plain : List (List ℕ) → Type 0
+abbrev pub Plain : List (List ℕ) → Type 0
 Plain [] = Unit {0}
 Plain (f ∷ fs) = (any isNewline f ≡ false) × Plain fs
 
-line-one : (fs : List (List ℕ)) → Plain fs → isLine (line fs) ≡ true
+pub line-one : (fs : List (List ℕ)) → Plain fs → isLine (line fs) ≡ true
 line-one [] h = refl
 line-one (f ∷ []) h = line-after f (newline ∷ []) (h .0) refl
 line-one (f ∷ g ∷ fs) h = line-after f (space ∷ line (g ∷ fs)) (h .0) (line-one (g ∷ fs) (h .1))
@@ -48,7 +48,7 @@ line-one (f ∷ g ∷ fs) h = line-after f (space ∷ line (g ∷ fs)) (h .0) (l
 digit-other : (x : ℕ) → isDigit x ≡ true → isNewline x ≡ false
 digit-other x h = ne-eqb x newline (λ e. omega (arith, leb-true 48 x (both (leb 48 x) (leb x 57) h .0)))
 
-decimal-plain : (n : ℕ) → any isNewline (decimal n) ≡ false
+pub decimal-plain : (n : ℕ) → any isNewline (decimal n) ≡ false
 decimal-plain n = none-by-every isDigit isNewline digit-other (decimal n) (decimal-digits n)
 
 -- nor is the base of a call

@@ -23,9 +23,11 @@ use Rattle.column_file.specs.Places.{headSize, columnsSize}
 use Rattle.column_file.proofs.Files.{two-each, columns-inside, file-size, strings-there}
 use Rattle.judged_file.specs.Judged.{Judged, judgeFile}
 use Rattle.judged_file.proofs.Judged.{judged-parts}
-use Rattle.listing_lines.specs.Lines.{textOf, refusalLine}
-use Rattle.column_listing.specs.Listing.{linesOf, listedFile, printed, listingOf}
-use Rattle.column_listing.proofs.Lengths.{text-length, refusal-length}
+use Rattle.refusal_text.specs.RefusalText.{refusalLine, printed}
+use Rattle.refusal_text.proofs.Lines.{refusal-length, refusal-some}
+use Rattle.listing_lines.specs.Lines.{textOf}
+use Rattle.column_listing.specs.Listing.{linesOf, listedFile, listingOf}
+use Rattle.column_listing.proofs.Lengths.{text-length}
 use Rattle.column_listing_laws.specs.Laws.{longestListing, ListingFits}
 
 -- ---- the first string of a set is no longer than the set
@@ -98,8 +100,7 @@ abbrev Short : List ℕ → Type 0
 Short t = (0 < length t) × (length t ≤ longestListing)
 
 by-refusal : (r : Refusal) → Short (refusalLine r)
-unfolding refusalLine
-by-refusal r = (omega arith, omega (arith, refusal-length r))
+by-refusal r = (refusal-some r, omega (arith, refusal-length r))
 
 module _ (s : List ℕ) where
   pub consensus-length : (f : File) (u : Found) → readFile s ≡ accepted f → consensusOf defaultCaller (f .strings) ≡ accepted u

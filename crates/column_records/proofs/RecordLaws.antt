@@ -1,18 +1,15 @@
 -- Records one column at a time, and how long they are. Assumes nothing.
 use mathlib.Core.Path.{_≡_, refl}
-use mathlib.Core.List.{List, [], _∷_, _++_}
+use mathlib.Core.List.{List, [], _++_}
 use Prim.Native.Nat.{ℕ, _+_, _-_, _*_, _≤_, _<_}
-use lib.ListN.{length, take, drop}
+use lib.ListN.{length}
 use Rattle.lent_bytes.specs.Bytes.{numberBytes}
 use Rattle.lent_bytes.proofs.Joined.{joined-length}
 use Rattle.column_file.specs.declared.columns.ColumnPlace.the-variants.{At, Past}
 use Rattle.column_file.specs.Format.{Observation}
 use Rattle.column_file.specs.Places.{columnAt, columnsAt}
-use Rattle.column_file.proofs.ColumnWalk.{observations-length, column-inside}
+use Rattle.column_file.proofs.ColumnParts.{partOf, part-length, columns-more, columns-past, columns-none}
 use Rattle.column_calls.specs.declared.columns.ColumnCall.{ColumnCall}
-use Rattle.column_calls.specs.Tables.{observationsIn}
-use Rattle.column_calls.proofs.Bytes.{part-observations}
-use Rattle.column_calls.proofs.Walk.{columns-more, columns-past, columns-none}
 use Rattle.column_records.specs.Records.{recordOf, recordsWith}
 
 -- 28 bytes each
@@ -33,11 +30,9 @@ module _ (called : List Observation → ColumnCall) (s : List ℕ) (at n : ℕ) 
   -- one column more: its record, and those of the columns after it
   pub records-more : (start k : ℕ) → 0 < n → columnAt s at ≡ At start k
       → left
-      ≡ recordOf (called (observationsIn (take (start + 2 * k - start) (drop start s)))) k
-      ++ recordsWith called (columnsAt s (start + 2 * k) (n - 1))
+      ≡ recordOf (called (partOf s start k)) k ++ recordsWith called (columnsAt s (start + 2 * k) (n - 1))
   unfolding recordsWith
-  records-more start k h e =
-      rw (columns-more s at n start k h e, observations-length s start k, part-observations s start k (column-inside s at (columnAt s at) refl start k e))
+  records-more start k h e = rw (columns-more s at n start k h e, part-length s at start k e)
 
   -- none more: the bytes do not reach
   pub records-past : columnAt s at ≡ Past → left ≡ []

@@ -15,7 +15,8 @@ use Rattle.simple_consensus.specs.Consensus.{defaultCaller, found}
 use Rattle.column_file.specs.Reading.{File, readFile}
 use Rattle.judged_file.specs.Judged.{judgeFile}
 use Rattle.listing_lines.specs.Lines.{textOf}
-use Rattle.column_listing.specs.Listing.{linesOf, listedFile, printed, listingOf}
+use Rattle.refusal_text.specs.RefusalText.{printed}
+use Rattle.column_listing.specs.Listing.{linesOf, listedFile, listingOf}
 use Rattle.column_listing.specs.Answers.{roomForText, listedIn}
 use Rattle.demands.specs.Refused.{SetConditions, InTurn, ListingConditions, Unchanged}
 

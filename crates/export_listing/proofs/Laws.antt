@@ -15,7 +15,8 @@ use Rattle.judged_file.proofs.Judged.{judged-parts}
 use Rattle.column_calls.specs.Columns.{calledColumn}
 use Rattle.column_listing.specs.declared.listing.Listing.{Listing}
 use Rattle.column_listing.specs.declared.listing.Listing.the-variants as listing
-use Rattle.column_listing.specs.Listing.{listedFile, printed, listingOf}
+use Rattle.refusal_text.specs.RefusalText.{printed}
+use Rattle.column_listing.specs.Listing.{listedFile, listingOf}
 use Rattle.column_listing.specs.Answers.{roomForText, listedIn, listingAnswer}
 use Rattle.column_listing_laws.proofs.Longest.{fits}
 use Rattle.column_records.specs.Records.{recordsWith, recordsOf, recordsIn}

@@ -1,4 +1,4 @@
--- A buffer that bytes fit into, and one that they don't; what a script writes, by its arguments. Assumes nothing.
+-- A buffer that nothing is written into; what a script writes, by its arguments. Assumes nothing.
 use mathlib.Core.Path.{_≡_}
 use mathlib.Core.Bool.{true, false}
 use mathlib.Core.List.{List, []}
@@ -12,15 +12,6 @@ use Rattle.base_builder.specs.declared.builder.ConsensusBaseBuilder.{ConsensusB
 use Rattle.lent_bytes.specs.Buffer.{lengthWritten, written}
 use Rattle.export_scripts.specs.Script.{items, isScript}
 use Rattle.export_reports.specs.Runs.{reports, scriptStart, scriptBytes}
-
-module _ (bs out : List ℕ) where
-  pub fits-replied : length bs ≤ length out → length bs ≡ lengthWritten bs out
-  unfolding lengthWritten
-  fits-replied h = rw (le-leb (length bs) (length out) h)
-
-  pub short-replied : length out < length bs → 0 ≡ lengthWritten bs out
-  unfolding lengthWritten
-  short-replied h = rw (lt-leb (length bs) (length out) h)
 
 -- no bytes at all
 empty-replied : (out : List ℕ) → 0 ≡ lengthWritten [] out

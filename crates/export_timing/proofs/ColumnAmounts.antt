@@ -2,7 +2,6 @@
 use mathlib.Core.Path.{_≡_, refl}
 use mathlib.Core.List.{List, [], _∷_}
 use Prim.Native.Nat.{ℕ, _+_, _-_, _*_, _%_, _^_, _≤_, _<_}
-use lib.ListN.{take, drop}
 use Rattle.refusals.specs.declared.Refusal.{Refusal}
 use Rattle.refusals.specs.Result.{refused}
 use Rattle.column_file.specs.declared.settings.Settings.{Settings}
@@ -11,12 +10,9 @@ use Rattle.column_file.specs.declared.columns.ColumnPlace.the-variants.{At, Pas
 use Rattle.column_file.specs.Format.{Observation}
 use Rattle.column_file.specs.Reading.{readFile}
 use Rattle.column_file.specs.Places.{columnAt, columnsAt}
-use Rattle.column_file.proofs.ColumnWalk.{column-inside}
+use Rattle.column_file.proofs.ColumnParts.{partOf, columns-more, columns-past, columns-none}
 use Rattle.column_calls.specs.declared.columns.ColumnCall.{ColumnCall}
 use Rattle.column_calls.specs.Columns.{calledColumn}
-use Rattle.column_calls.specs.Tables.{observationsIn}
-use Rattle.column_calls.proofs.Bytes.{part-observations}
-use Rattle.column_calls.proofs.Walk.{columns-more, columns-past, columns-none}
 use Rattle.column_file.proofs.Readings.{FileAt, columns-read}
 use Rattle.export_timing.specs.Amounts.{amountOf}
 use Rattle.export_timing.specs.Columns.{columnAmounts, callsOf, amountsWith}
@@ -29,9 +25,9 @@ module _ (called : List Observation → ColumnCall) (s : List ℕ) (at n : ℕ) 
 
   -- one column more
   pub turn : (start k : ℕ) → 0 < n → columnAt s at ≡ At start k
-      → left ≡ amountOf (called (observationsIn (take (start + 2 * k - start) (drop start s))) .call) + amountsWith called (columnsAt s (start + 2 * k) (n - 1))
+      → left ≡ amountOf (called (partOf s start k) .call) + amountsWith called (columnsAt s (start + 2 * k) (n - 1))
   unfolding amountsWith
-  turn start k h e = rw (columns-more s at n start k h e, part-observations s start k (column-inside s at (columnAt s at) refl start k e))
+  turn start k h e = rw (columns-more s at n start k h e)
 
   -- the bytes do not reach, or no column is left
   pub turned-past : columnAt s at ≡ Past → left ≡ 0

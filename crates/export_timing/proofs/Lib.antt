@@ -1,3 +1,2 @@
-pub mod Sums
 pub mod ScriptAmounts
 pub mod ColumnAmounts

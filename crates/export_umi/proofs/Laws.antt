@@ -6,12 +6,12 @@ use native.Mathlib.Omega.{arith}
 use borrow.Author.Tests.{le-leb}
 use lib.Dec.{leb}
 use lib.ListN.{length, take, drop, length-append}
-use lib.Seq.{take-append-seam}
 use Rattle.words.specs.Choice.{if_then_else_}
 use Rattle.lent_bytes.specs.Buffer.{written}
+use Rattle.lent_bytes.proofs.Buffer.{written-front}
 use Rattle.refusals.specs.declared.Refusal.{Refusal}
-use Rattle.refusals.specs.declared.Refusal.the-variants.{FileTooLong, CutOff, BadSettings, AbsentQuality, NoStrings, LengthsDiffer, NotAscii, UnlikeFirst, Mixed, BufferTooShort, FullBuilder}
 use Rattle.refusals.specs.Refusals.{numberOf}
+use Rattle.refusals.proofs.Numbers.{number-small}
 use Rattle.refusals.specs.Result.{Result, refused, accepted}
 use Rattle.export_reports.specs.Report.{builderBytes}
 use Rattle.simple_consensus.specs.declared.caller.SimpleConsensusCaller.{SimpleConsensusCaller}
@@ -59,7 +59,7 @@ module _ {X R : Type 0} (say : R → X) where
     asked f x c e k n a after text lent h s g u l short =
         (rw (← e, h, s, g, u, same (f x)), (rw (← e) l, rw s short))
 
--- ---- what was found, by the code: a refusal's number is below 256
+-- ---- what was found, by the code, which is below 256 for a refusal
 abbrev pub Refuses : Result Found → Type 0
 Refuses (refused r) = Unit {0}
 Refuses (accepted f) = ⊥
@@ -67,19 +67,6 @@ Refuses (accepted f) = ⊥
 abbrev pub Gives : Result Found → Type 0
 Gives (refused r) = ⊥
 Gives (accepted f) = Unit {0}
-
-number-small : (r : Refusal) → numberOf r < 256
-number-small FileTooLong = omega arith
-number-small CutOff = omega arith
-number-small BadSettings = omega arith
-number-small AbsentQuality = omega arith
-number-small NoStrings = omega arith
-number-small LengthsDiffer = omega arith
-number-small NotAscii = omega arith
-number-small UnlikeFirst = omega arith
-number-small Mixed = omega arith
-number-small BufferTooShort = omega arith
-number-small FullBuilder = omega arith
 
 -- both ways of each kind of answer
 abbrev ByCode : ℕ → Result Found → Type 0
@@ -106,10 +93,6 @@ by-code Consensus c set text = by-flagged (consensusIn c set text)
 by-code ConsensusDuplex c set text = by-duplex (duplexIn c set text)
 
 -- ---- the string at the front of its buffer
-written-front : (text out : List ℕ) → length text ≤ length out → take (length text) (written text out) ≡ text
-unfolding written
-written-front text out h = rw (le-leb (length text) (length out) h) (take-append-seam text (drop (length text) out))
-
 written-inside : (text out : List ℕ) → length text ≤ length out → length text ≤ length (written text out)
 unfolding written
 written-inside text out h = rw (le-leb (length text) (length out) h, length-append text (drop (length text) out)) (omega arith)

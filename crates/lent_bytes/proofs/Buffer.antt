@@ -6,10 +6,10 @@ use native.Mathlib.Nat.{add-zero, zero-add}
 use native.Mathlib.Numerals.{add-one}
 use native.Mathlib.Omega.{arith}
 use borrow.Author.Tests.{le-leb, lt-leb}
-use lib.ListN.{length, drop, set, drop-of-length-le}
-use lib.Seq.{sets, sets-eq}
+use lib.ListN.{length, take, drop, set, drop-of-length-le}
+use lib.Seq.{sets, sets-eq, take-append-seam}
 use Rattle.words.specs.Lists.{byteAt}
-use Rattle.lent_bytes.specs.Buffer.{written}
+use Rattle.lent_bytes.specs.Buffer.{lengthWritten, written}
 use Rattle.lent_bytes.proofs.Lists.{bytes-from}
 
 -- byte i of the bytes set at place k, and then the others
@@ -35,3 +35,16 @@ module _ (bs out : List ℕ) where
   pub short-written : length out < length bs → out ≡ written bs out
   unfolding written
   short-written h = rw (lt-leb (length bs) (length out) h)
+
+  pub fits-replied : length bs ≤ length out → length bs ≡ lengthWritten bs out
+  unfolding lengthWritten
+  fits-replied h = rw (le-leb (length bs) (length out) h)
+
+  pub short-replied : length out < length bs → 0 ≡ lengthWritten bs out
+  unfolding lengthWritten
+  short-replied h = rw (lt-leb (length bs) (length out) h)
+
+  -- at its front stand the bytes
+  pub written-front : length bs ≤ length out → take (length bs) (written bs out) ≡ bs
+  unfolding written
+  written-front h = rw (le-leb (length bs) (length out) h) (take-append-seam bs (drop (length bs) out))

@@ -6,11 +6,11 @@ use native.Mathlib.Nat.{min-eq-left}
 use native.Mathlib.Omega.{arith}
 use borrow.Author.Tests.{leb-true, leb-false}
 use lib.Dec.{leb}
-use lib.ListN.{length, length-append}
+use lib.ListN.{length, take, length-append}
 use lib.Seq.{sets, set-out, length-sets}
 use Rattle.words.proofs.Cases.{test}
 use Rattle.lent_bytes.specs.Buffer.{written}
-use Rattle.lent_bytes.proofs.Buffer.{sets-append, fits-written}
+use Rattle.lent_bytes.proofs.Buffer.{sets-append, fits-written, written-front}
 use Rattle.lent_text.specs.Printed.{Printed, lastPlace}
 
 -- past the end nothing is set
@@ -56,6 +56,12 @@ printed-as {o} {o1} {t} {u} {a} {w1} p e = rw e at p
 -- a text printed from the start of a buffer that it fits into
 pub printed-written : {o o1 t : List ℕ} {w1 : ℕ} → Printed o 0 t o1 w1 → length t ≤ length o → (w1 ≡ length t) × (o1 ≡ written t o)
 printed-written {o} {o1} {t} {w1} p h = (omega arith, p .bytes ∙ fits-written t o h)
+
+-- and then stands at its front
+pub printed-front : {o o1 t : List ℕ} {w1 : ℕ} → Printed o 0 t o1 w1 → length t ≤ length o → take w1 o1 ≡ t
+printed-front {o} {o1} {t} {w1} p h =
+    let q = printed-written p h in
+    rw (q .0, q .1) (written-front t o h)
 
 -- ---- what is printed so far and what is left
 

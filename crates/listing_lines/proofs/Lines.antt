@@ -1,19 +1,15 @@
 -- The lines of a listing: a line from what is put one after another, and the lines one column at a time. Assumes nothing.
-use mathlib.Core.Path.{_≡_, refl}
+use mathlib.Core.Path.{_≡_}
 use mathlib.Core.List.{List, [], _∷_, _++_, append-assoc}
 use Prim.Native.Nat.{ℕ, _+_, _-_, _*_, _≤_, _<_}
-use lib.ListN.{length, take, drop}
 use Rattle.tie_rules.specs.Lanes.{counted}
 use Rattle.lane_calls.specs.declared.call.Call.{Call}
 use Rattle.lent_text.specs.Text.{decimal, space, newline}
 use Rattle.column_file.specs.declared.columns.ColumnPlace.the-variants.{At, Past}
 use Rattle.column_file.specs.Format.{Observation}
 use Rattle.column_file.specs.Places.{columnAt, columnsAt}
-use Rattle.column_file.proofs.ColumnWalk.{column-inside}
+use Rattle.column_file.proofs.ColumnParts.{partOf, columns-more, columns-past, columns-none}
 use Rattle.column_calls.specs.declared.columns.ColumnCall.{ColumnCall}
-use Rattle.column_calls.specs.Tables.{observationsIn}
-use Rattle.column_calls.proofs.Bytes.{part-observations}
-use Rattle.column_calls.proofs.Walk.{columns-more, columns-past, columns-none}
 use Rattle.listing_lines.specs.Lines.{depthOf, lineOf, textOf}
 use Rattle.listing_lines.specs.Tables.{lineWith, linesWith}
 
@@ -37,10 +33,6 @@ unfolding lineOf
 line-puts i call ns =
     rw (fields (decimal (counted ns 0)) (decimal (counted ns 1)) (decimal (counted ns 2)) (decimal (counted ns 3)) (newline ∷ []))
 
--- a column that is found lies in the file
-pub column-fits : (s : List ℕ) (at start n : ℕ) → columnAt s at ≡ At start n → start + 2 * n ≤ length s
-column-fits s at start n e = column-inside s at (columnAt s at) refl start n e
-
 -- n columns from a place on, numbered from i on, by what is called of each
 module _ (called : List Observation → ColumnCall) (s : List ℕ) (at n i : ℕ) where
   -- their lines
@@ -50,11 +42,9 @@ module _ (called : List Observation → ColumnCall) (s : List ℕ) (at n i : ℕ
   -- one column more: its line, and those of the columns after it
   pub lines-more : (start k : ℕ) → 0 < n → columnAt s at ≡ At start k
       → left
-      ≡ lineWith i (called (observationsIn (take (start + 2 * k - start) (drop start s))))
-      ++ textOf (linesWith called (i + 1) (columnsAt s (start + 2 * k) (n - 1)))
+      ≡ lineWith i (called (partOf s start k)) ++ textOf (linesWith called (i + 1) (columnsAt s (start + 2 * k) (n - 1)))
   unfolding linesWith
-  lines-more start k h e =
-      rw (columns-more s at n start k h e, part-observations s start k (column-fits s at start k e))
+  lines-more start k h e = rw (columns-more s at n start k h e)
 
   -- none more: the bytes do not reach
   pub lines-past : columnAt s at ≡ Past → left ≡ []

@@ -2,8 +2,6 @@
 use Prim.Native.Nat.{ℕ, _+_}
 use mathlib.Core.Bool.{Bool, true, false}
 use mathlib.Core.List.{List, [], _∷_}
-use Rattle.refusals.specs.declared.Refusal.{Refusal}
-use Rattle.refusals.specs.Refusals.{numberOf}
 use Rattle.lent_bytes.specs.Bytes.{joined}
 use Rattle.lent_text.specs.Text.{letters, decimal, line}
 use Rattle.tie_rules.specs.Lanes.{counted}
@@ -49,7 +47,3 @@ umiLine text hadErrors = line (letters "umi" ∷ text ∷ flag hadErrors ∷ [])
 -- lines one after another
 abbrev pub textOf : List (List ℕ) → List ℕ
 textOf ls = joined (λ l. l) ls
-
--- what is printed of a refused file: its number alone
-unfoldable pub refusalLine : Refusal → List ℕ
-refusalLine r = line (letters "refused" ∷ decimal (numberOf r) ∷ [])

@@ -7,7 +7,7 @@ ghost use Rattle.lent_text.specs.Text.{decimal, space};
 ghost use Rattle.lent_text.specs.Printed.{Printed};
 ghost use Rattle.column_file.specs.Places.{columnsAt};
 ghost use Rattle.column_calls.specs.Tables.{columnCallWith};
-ghost use Rattle.listing_lines.specs.Lines.{umiLine, textOf, refusalLine};
+ghost use Rattle.listing_lines.specs.Lines.{umiLine, textOf};
 ghost use Rattle.listing_lines.specs.Tables.{lineWith, linesWith, textWith};
 use base_builder::ConsensusBaseBuilder;
 use base_builder::total;
@@ -18,7 +18,6 @@ use column_file::column_at;
 use lent_text::put_byte;
 use lent_text::put_bytes;
 use lent_text::put_decimal;
-use refusals::Refusal;
 use widths::u8_as_u64;
 use widths::u32_as_u64;
 
@@ -130,14 +129,4 @@ pub fn put_text(
         lines,
     );
     put_umi(out, umi, text, had_errors)
-}
-
-// What is printed of a refused file.
-pub fn put_refusal(out: &mut [u8], refusal: Refusal) -> usize
-    ensures { λ r. ⌜ Printed (now (out .entry)) 0 (refusalLine refusal) (now (out .exit)) r ⌝ }
-{
-    let number = refusals::number(refusal);
-    let a = put_bytes(out, 0, b"refused");
-    let b = put_field(out, a, u8_as_u64(number));
-    put_byte(out, b, b'\n')
 }

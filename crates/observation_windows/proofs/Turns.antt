@@ -1,32 +1,20 @@
 -- Observations one at a time, and how many more a builder can count. Assumes nothing.
-use mathlib.Core.Path.{_≡_, refl, sym, _∙_, ap}
+use mathlib.Core.Path.{_≡_, refl, sym, _∙_}
 use mathlib.Core.Bool.{true, false, or-true}
 use mathlib.Core.List.{List, [], _∷_}
-use Prim.Native.Nat.{ℕ, suc, _+_, _-_, _≤_, _<_}
-use native.Mathlib.Numerals.{add-one}
+use Prim.Native.Nat.{ℕ, _+_, _-_, _≤_, _<_}
 use native.Mathlib.Omega.{arith}
 use borrow.Author.Tests.{le-leb, lt-leb}
 use lib.Dec.{eqb}
 use lib.ListN.{length, getD, drop, length-drop}
-use lib.Seq.{drop-cons}
 use lib.Ieee.{Float}
+use Rattle.words.proofs.Pairs.{two}
 use Rattle.tie_rules.specs.Lanes.{noLane, laneOfByte}
 use Rattle.tie_rules.proofs.Lanes.{in-lane}
 use Rattle.base_builder.specs.declared.builder.ConsensusBaseBuilder.{ConsensusBaseBuilder}
 use Rattle.base_builder.specs.Builder.{total, isFull, fullCount}
 use Rattle.base_builder.proofs.Totals.{total-more}
 use Rattle.observation_windows.specs.Windows.{windowAt, windowObserved, windowAdded, allAdded}
-
--- ---- bytes two by two
-
--- two bytes and what follows
-pub two : (s : List ℕ) (i : ℕ) → i + 1 < length s → drop i s ≡ getD s i 0 ∷ getD s (i + 1) 0 ∷ drop (i + 2) s
-two s i h =
-    let end : suc (i + 1) ≡ i + 2 = omega arith in
-    let l : i < length s = omega arith in
-    drop-cons s i 0 l
-    ∙ ap (λ (k : ℕ). getD s i 0 ∷ drop k s) (sym (add-one i))
-    ∙ ap (λ (l : List ℕ). getD s i 0 ∷ l) (drop-cons s (i + 1) 0 h ∙ ap (λ (k : ℕ). getD s (i + 1) 0 ∷ drop k s) end)
 
 -- fewer than two bytes
 few : (rows : List Float) (b : ConsensusBaseBuilder) (s : List ℕ) → length s ≤ 1 → allAdded rows b s ≡ b

@@ -1,10 +1,12 @@
--- An answer that says what was refused has its number, and the first of two tests that refuses gives its own. Assumes nothing.
+-- An answer that says what was refused has its number, which is small, and the first of two tests that refuses gives its own. Assumes nothing.
 use mathlib.Core.Path.{_≡_, refl, _∙_, ap}
-use Prim.Native.Nat.{ℕ}
+use Prim.Native.Nat.{ℕ, _<_}
+use native.Mathlib.Omega.{arith}
+use Rattle.refusals.specs.declared.Refusal.{Refusal}
 use Rattle.refusals.specs.declared.Refusal.the-variants.{FileTooLong, CutOff, BadSettings, AbsentQuality, NoStrings, LengthsDiffer, NotAscii, UnlikeFirst, Mixed, BufferTooShort, FullBuilder}
 use Rattle.refusals.specs.declared.Verdict.{Verdict}
 use Rattle.refusals.specs.declared.Verdict.the-variants.{Sound, Refused}
-use Rattle.refusals.specs.Refusals.{numberIn, verdictNumber, firstNumber}
+use Rattle.refusals.specs.Refusals.{numberOf, numberIn, verdictNumber, firstNumber}
 use Rattle.refusals.specs.Result.{Result, orElse}
 
 -- an answer that is known, and then its number
@@ -33,3 +35,17 @@ first-number (Refused FullBuilder) w = refl
 
 pub or-else-said : (v w r : Verdict) → r ≡ orElse v w → (r ≡ orElse v w) × (verdictNumber r ≡ firstNumber (verdictNumber v) (verdictNumber w))
 or-else-said v w r e = said-number verdictNumber (orElse v w) (firstNumber (verdictNumber v) (verdictNumber w)) (first-number v w) r e
+
+-- a number of two digits
+pub number-small : (r : Refusal) → numberOf r < 100
+number-small FileTooLong = omega arith
+number-small CutOff = omega arith
+number-small BadSettings = omega arith
+number-small AbsentQuality = omega arith
+number-small NoStrings = omega arith
+number-small LengthsDiffer = omega arith
+number-small NotAscii = omega arith
+number-small UnlikeFirst = omega arith
+number-small Mixed = omega arith
+number-small BufferTooShort = omega arith
+number-small FullBuilder = omega arith

@@ -5,11 +5,11 @@ ghost use mathlib.Core.List.{List};
 ghost use Prim.Native.Nat.{ℕ, _<_};
 ghost use lib.ListN.{length, take};
 ghost use Rattle.lent_bytes.specs.Buffer.{lengthWritten, written};
+ghost use Rattle.streams.specs.Streams.{FrontOf, onto};
 ghost use Rattle.column_listing.specs.Listing.{listingOf};
-ghost use Rattle.stream_listing.specs.Streams.{FrontOf, onto};
 
 // One byte more than a file may have, so that a longer one is seen to be.
-pub const INPUT_ROOM: usize = 65537;
+pub const INPUT_ROOM: usize = string_set::LONGEST_FILE + 1;
 
 // Holds every listing.
 pub const TEXT_ROOM: usize = 2400000;

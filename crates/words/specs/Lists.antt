@@ -23,6 +23,11 @@ keep p (x ∷ xs) =
     if p x then x ∷ keep p xs
     else keep p xs
 
+-- f of each, added up
+abbrev pub addedUp : {A : Type 0} → (A → ℕ) → List A → ℕ
+addedUp f [] = 0
+addedUp f (x ∷ xs) = f x + addedUp f xs
+
 -- the last one, or else x
 abbrev pub lastOr : {A : Type 0} → A → List A → A
 lastOr x [] = x

@@ -4,9 +4,9 @@ use Prim.Native.Nat.{_≤_, _<_}
 use native.Mathlib.Omega.{arith}
 use lib.ListN.{length}
 use borrow.Author.Needs.{needs}
-use Rattle.lent_bytes.proofs.Buffer.{short-written}
+use Rattle.lent_bytes.proofs.Buffer.{short-written, fits-replied, short-replied}
 use Rattle.lent_text.proofs.Printed.{printed-written}
-use Rattle.export_reports.proofs.Buffers.{fits-replied, short-replied, none-replied, none-written}
+use Rattle.export_reports.proofs.Buffers.{none-replied, none-written}
 use Rattle.export_observations.proofs.Laws.{counts-length, asked, asked-length, eighty, not-eighty}
 use Rattle.export_observations.proofs.observations.Statement.{statement}
 use Rattle.export_observations.proofs.observations.Tie as tie

@@ -3,15 +3,16 @@ use native.Mathlib.Omega.{arith}
 use mathlib.Core.Path.{_≡_, sym, _∙_}
 use mathlib.Core.List.{List, [], _++_}
 use Prim.Native.Nat.{ℕ, _+_, _-_, _*_, _≤_}
-use lib.ListN.{length, take, drop}
+use lib.ListN.{length}
 use Rattle.unanimous_shortcut.specs.Unanimous.{tablesOf}
 use Rattle.lent_text.specs.Printed.{Printed}
 use Rattle.lent_text.proofs.Printed.{print-then, print-none, printed-length, printed-as, one-more, no-more}
 use Rattle.column_file.specs.Places.{columnsAt}
-use Rattle.column_calls.specs.Tables.{observationsIn, columnCallWith}
+use Rattle.column_file.proofs.ColumnParts.{partOf, column-fits}
+use Rattle.column_calls.specs.Tables.{columnCallWith}
 use Rattle.listing_lines.specs.Lines.{textOf}
 use Rattle.listing_lines.specs.Tables.{lineWith, linesWith}
-use Rattle.listing_lines.proofs.Lines.{column-fits, lines-more, lines-past, lines-none}
+use Rattle.listing_lines.proofs.Lines.{lines-more, lines-past, lines-none}
 use borrow.Author.Needs.{needs}
 use Rattle.listing_lines.proofs.put_lines.Statement.{statement}
 use Rattle.listing_lines.proofs.put_lines.Tie as tie
@@ -76,8 +77,7 @@ loop-again c =
     let n = at-next .next .given in
     let s = a .file .now in
     let called = columnCallWith (a .rows .now) (a .start) (tablesOf (a .thresholds .now) (a .cerr-min .now) (a .cap)) in
-    let end = n .0 .0 + 2 * n .0 .1 .0 in
-    let line = lineWith (l .number + 1) (called (observationsIn (take (end - n .0 .0) (drop (n .0 .0) s)))) in
+    let line = lineWith (l .number + 1) (called (partOf s (n .0 .0) (n .0 .1 .0))) in
     let e = sym (at-next .before .before .column-at .ensures .0) ∙ n .1 in
     let d : a .count - (l .number + 1) ≡ a .count - l .number - 1 = omega arith in
     let p : Printed (l .out) (l .place) line (put .put-line .last .0) (put .put-line .result) =

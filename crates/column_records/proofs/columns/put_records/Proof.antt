@@ -2,14 +2,14 @@
 use native.Mathlib.Omega.{arith}
 use mathlib.Core.Path.{_≡_, refl, sym, _∙_}
 use mathlib.Core.List.{List, [], _++_}
-use Prim.Native.Nat.{ℕ, _+_, _-_, _*_, _≤_}
-use lib.ListN.{length, take, drop}
+use Prim.Native.Nat.{ℕ, _+_, _*_, _≤_}
+use lib.ListN.{length}
 use Rattle.unanimous_shortcut.specs.Unanimous.{tablesOf}
 use Rattle.lent_text.specs.Printed.{Printed}
 use Rattle.lent_text.proofs.Printed.{print-then, print-none, printed-length, printed-as, one-more, no-more}
 use Rattle.column_file.specs.Places.{columnsAt}
-use Rattle.column_calls.specs.Tables.{observationsIn, columnCallWith}
-use Rattle.listing_lines.proofs.Lines.{column-fits}
+use Rattle.column_file.proofs.ColumnParts.{partOf, column-fits}
+use Rattle.column_calls.specs.Tables.{columnCallWith}
 use Rattle.column_records.specs.Records.{recordOf, recordsWith}
 use Rattle.column_records.proofs.RecordLaws.{records-more, records-past, records-none}
 use borrow.Author.Needs.{needs}
@@ -72,8 +72,7 @@ loop-again c =
     let n = at-next .next .given in
     let s = a .file .now in
     let called = columnCallWith (a .rows .now) (a .start) (tablesOf (a .thresholds .now) (a .cerr-min .now) (a .cap)) in
-    let end = n .0 .0 + 2 * n .0 .1 .0 in
-    let one = recordOf (called (observationsIn (take (end - n .0 .0) (drop (n .0 .0) s)))) (n .0 .1 .0) in
+    let one = recordOf (called (partOf s (n .0 .0) (n .0 .1 .0))) (n .0 .1 .0) in
     let e = sym (at-next .before .before .column-at .ensures .0) ∙ n .1 in
     let p : Printed (l .out) (l .place) one (put .put-record .last .0) (put .put-record .result) =
     rw (← called-at .call-column .ensures) (put .put-record .ensures) in (

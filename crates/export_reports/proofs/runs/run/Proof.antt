@@ -10,8 +10,8 @@ use Rattle.gap_tables.specs.Gaps.{gapTables}
 use Rattle.export_scripts.specs.Script.{items}
 use Rattle.export_reports.specs.Runs.{reports, scriptStart, scriptBytes}
 use Rattle.export_reports.proofs.Lengths.{reports-length}
-use Rattle.lent_bytes.proofs.Buffer.{fits-written, short-written}
-use Rattle.export_reports.proofs.Buffers.{fits-replied, short-replied, none-replied, none-written, bad-rule, bad-script, good}
+use Rattle.lent_bytes.proofs.Buffer.{fits-written, short-written, fits-replied, short-replied}
+use Rattle.export_reports.proofs.Buffers.{none-replied, none-written, bad-rule, bad-script, good}
 use borrow.Author.Needs.{needs}
 use Rattle.export_reports.proofs.runs.run.Statement.{statement}
 use Rattle.export_reports.proofs.runs.run.Tie as tie

@@ -1,15 +1,15 @@
 -- `add_round`: the sum and what is left to add are all, at each turn. Assumes nothing.
 use native.Mathlib.Omega.{arith}
 use mathlib.Core.Path.{_≡_, refl, sym, _∙_, ap}
-use Prim.Native.Nat.{ℕ, _+_, _-_, _*_, _%_, _^_, _≤_, _<_}
-use lib.ListN.{length, take, drop}
+use Prim.Native.Nat.{ℕ, _+_, _*_, _%_, _^_, _≤_, _<_}
+use lib.ListN.{length}
 use Rattle.unanimous_shortcut.specs.Unanimous.{tablesOf}
 use Rattle.column_file.specs.Places.{columnsAt}
-use Rattle.column_file.proofs.ColumnWalk.{column-inside}
-use Rattle.column_calls.specs.Tables.{observationsIn, columnCallWith}
+use Rattle.column_file.proofs.ColumnParts.{partOf, column-fits}
+use Rattle.column_calls.specs.Tables.{columnCallWith}
 use Rattle.export_timing.specs.Amounts.{amountOf}
 use Rattle.export_timing.specs.Columns.{amountsWith}
-use Rattle.export_timing.proofs.Sums.{wrapped, all-added}
+use Rattle.words.proofs.Sums.{wrapped, all-added}
 use Rattle.export_timing.proofs.ColumnAmounts.{turn, turned-past, turned}
 use borrow.Author.Needs.{needs}
 use Rattle.export_timing.proofs.columns.add_round.Statement.{statement}
@@ -33,8 +33,7 @@ inside c =
     let l = c .before .before .before .before .before .loop in
     let a = c .before .before .before .before .before .before .before .args in
     let n = c .before .next .given in
-    let r = c .before .before .before .column-at in
-    column-inside (a .file .now) (l .place) (r .result) (r .ensures .0) (n .0 .0) (n .0 .1 .0) (n .1)
+    column-fits (a .file .now) (l .place) (n .0 .0) (n .0 .1 .0) (sym (c .before .before .before .column-at .ensures .0) ∙ n .1)
 
 loop-holds : tie.Need-loop-holds Inv-loop μ-loop
 loop-holds c = (refl, search needs)
@@ -67,7 +66,7 @@ loop-again c =
     let s = a .file .now in
     let called = columnCallWith (a .rows .now) (a .start) (tablesOf (a .thresholds .now) (a .cerr-min .now) (a .cap)) in
     let e = sym (at-next .before .before .column-at .ensures .0) ∙ n .1 in
-    let more = amountOf (called (observationsIn (take (n .0 .0 + 2 * n .0 .1 .0 - n .0 .0) (drop (n .0 .0) s))) .call) in (
+    let more = amountOf (called (partOf s (n .0 .0) (n .0 .1 .0)) .call) in (
       rw (c .wrapping-add-u64 .ensures, c .before .amount .ensures, called-at .call-column .ensures)
           (wrapped (l .total) more _ (2 ^ 64)
           ∙ ap (λ (k : ℕ). (l .total + k) % 2 ^ 64)

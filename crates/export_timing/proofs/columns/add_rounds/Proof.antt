@@ -6,7 +6,7 @@ use Rattle.unanimous_shortcut.specs.Unanimous.{tablesOf}
 use Rattle.column_file.specs.Places.{columnsAt}
 use Rattle.column_calls.specs.Tables.{columnCallWith}
 use Rattle.export_timing.specs.Columns.{amountsWith}
-use Rattle.export_timing.proofs.Sums.{once-more}
+use Rattle.words.proofs.Sums.{once-more}
 use borrow.Author.Needs.{needs}
 use Rattle.export_timing.proofs.columns.add_rounds.Statement.{statement}
 use Rattle.export_timing.proofs.columns.add_rounds.Tie as tie

@@ -7,7 +7,7 @@ use Rattle.unanimous_shortcut.specs.Unanimous.{tablesOf}
 use Rattle.rate_tables.specs.Adjusted.{adjustedOf}
 use Rattle.export_scripts.specs.Script.{items}
 use Rattle.export_timing.specs.Times.{amounts}
-use Rattle.export_timing.proofs.Sums.{wrapped, all-added}
+use Rattle.words.proofs.Sums.{wrapped, all-added}
 use Rattle.export_timing.proofs.ScriptAmounts.{amountBy, turn, turned}
 use borrow.Author.Needs.{needs}
 use Rattle.export_timing.proofs.scripts.add_run.Statement.{statement}

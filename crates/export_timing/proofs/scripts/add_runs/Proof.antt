@@ -6,7 +6,7 @@ use Rattle.unanimous_shortcut.specs.Unanimous.{tablesOf}
 use Rattle.rate_tables.specs.Adjusted.{adjustedOf}
 use Rattle.export_scripts.specs.Script.{items}
 use Rattle.export_timing.specs.Times.{amounts}
-use Rattle.export_timing.proofs.Sums.{once-more}
+use Rattle.words.proofs.Sums.{once-more}
 use borrow.Author.Needs.{needs}
 use Rattle.export_timing.proofs.scripts.add_runs.Statement.{statement}
 use Rattle.export_timing.proofs.scripts.add_runs.Tie as tie

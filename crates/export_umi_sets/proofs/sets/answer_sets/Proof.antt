@@ -6,8 +6,8 @@ use native.Mathlib.Omega.{arith}
 use borrow.Author.Needs.{needs}
 use lib.ListN.{length}
 use Rattle.lent_text.specs.Printed.{lastPlace}
-use Rattle.lent_bytes.proofs.Buffer.{short-written}
-use Rattle.export_reports.proofs.Buffers.{fits-replied, short-replied, none-replied, none-written}
+use Rattle.lent_bytes.proofs.Buffer.{short-written, fits-replied, short-replied}
+use Rattle.export_reports.proofs.Buffers.{none-replied, none-written}
 use Rattle.export_umi_sets.specs.Reading.{setsIn}
 use Rattle.export_umi_sets.specs.Answers.{answersTo}
 use Rattle.export_umi_sets.proofs.Buffers.{past-none, at-size, at-written}

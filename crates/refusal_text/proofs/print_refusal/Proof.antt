@@ -3,12 +3,11 @@ use mathlib.Core.Path.{_≡_, sym, _∙_, ap}
 use native.Mathlib.Omega.{arith}
 use borrow.Author.Needs.{needs}
 use lib.ListN.{length, take}
-use Rattle.listing_lines.specs.Lines.{refusalLine}
-use Rattle.lent_text.proofs.Printed.{printed-length, printed-written}
-use Rattle.column_listing.proofs.Lengths.{refusal-length}
-use Rattle.column_listing.proofs.Outcomes.{printed-front, line-put, line-not-put}
-use Rattle.column_listing.proofs.listing.print_refusal.Statement.{statement}
-use Rattle.column_listing.proofs.listing.print_refusal.Tie as tie
+use Rattle.refusal_text.specs.RefusalText.{refusalLine}
+use Rattle.lent_text.proofs.Printed.{printed-length, printed-written, printed-front}
+use Rattle.refusal_text.proofs.Lines.{refusal-length, line-put, line-not-put}
+use Rattle.refusal_text.proofs.print_refusal.Statement.{statement}
+use Rattle.refusal_text.proofs.print_refusal.Tie as tie
 
 -- the line is as long as was counted, and stands at the front
 line-there : (c : tie.After-put-refusal)
