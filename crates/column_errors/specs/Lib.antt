@@ -1,0 +1,2 @@
+pub mod ErrorSums
+pub mod Tables

@@ -1,0 +1,1 @@
+// No code: what holds of the error sums of every file, beside its listing.
