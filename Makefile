@@ -17,7 +17,7 @@ FILES ?= 20000
 MINUTES ?= 60
 SEED ?= 1
 
-# The file that `make run` and `make try` list. A recipe takes it from its environment, so that its
+# The file that `make run`, `make sums` and `make try` read. A recipe takes it from its environment, so that its
 # name may have a space or a quote in it.
 SAMPLE ?= samples/scope.col
 export SAMPLE
@@ -32,7 +32,7 @@ BENCH ?=
 unexport EXPORTS_FOLDER
 
 .DEFAULT_GOAL := help
-.PHONY: help run try test check library install differential soak vectors bench fmt clean need-rt
+.PHONY: help run sums try test check library install differential soak vectors bench fmt clean need-rt
 
 help: ## list the targets
 	@sed -n 's/^\([a-z]*\):[^#]*## \(.*\)/\1\t\2/p' $(MAKEFILE_LIST) | expand -t 14
@@ -46,7 +46,10 @@ test: need-rt ## everything: layout, all proofs from nothing, comparison beside 
 	@tests/everything
 
 run: need-rt ## prove and build the listing program, and list a file (SAMPLE=samples/library.col, a larger one)
-	@tests/run-listing "$$SAMPLE"
+	@tests/run-program listing "$$SAMPLE"
+
+sums: need-rt ## prove and build the program error_sums, and print the error sums of a file (SAMPLE=FILE)
+	@tests/run-program error_sums "$$SAMPLE"
 
 try: need-rt ## list a file in seconds, with nothing proved (SAMPLE=FILE)
 	@tests/try-listing "$$SAMPLE"

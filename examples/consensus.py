@@ -1,4 +1,5 @@
-"""The library from Python, by ctypes: `python3 consensus.py FILE` prints each column's call, and an example with UMI strings.
+"""The library from Python, by ctypes: `python3 consensus.py FILE` prints each column's call and expected errors, and an example
+with UMI strings.
 
 CONSENSUS_LIBRARY names the shared library; without it the linker's search path is asked."""
 
@@ -8,7 +9,7 @@ import struct
 import sys
 
 library = ctypes.CDLL(os.environ.get("CONSENSUS_LIBRARY", "libconsensus.so"))
-for name in ("consensus_records", "consensus_umi"):
+for name in ("consensus_records", "consensus_error_sums", "consensus_umi"):
     getattr(library, name).restype = ctypes.c_uint64
 
 
@@ -29,6 +30,16 @@ def records(file):
     return [(chr(base), quality, *counts) for base, quality, *counts in struct.iter_unpack("<BBxx6I", out.raw[:length])]
 
 
+def error_sums(file):
+    """Of each column: the sum of its qualities' error probabilities, in parts of 2^48 and rounded down each."""
+    out = ctypes.create_string_buffer(700_000)
+    length = library.consensus_error_sums(file, ctypes.c_size_t(len(file)), out, ctypes.c_size_t(len(out)))
+    text = out.raw[:length].decode()
+    if text.startswith("refused"):
+        raise Refused(text.strip())
+    return [int(line) for line in text.splitlines()]
+
+
 def umi(strings):
     """The consensus of UMI strings, and whether one of them differs from it."""
     data = bytes([len(strings)]) + b"".join(bytes([len(s)]) + s for s in strings)
@@ -41,6 +52,7 @@ def umi(strings):
 
 if __name__ == "__main__":
     with open(sys.argv[1], "rb") as file:
-        for number, record in enumerate(records(file.read()), 1):
-            print(number, *record)
+        data = file.read()
+    for number, (record, errors) in enumerate(zip(records(data), error_sums(data)), 1):
+        print(number, *record, f"{errors / 2**48:.9f}")
     print("umi", *umi([b"ACGT", b"ACGT", b"ACGA"]))

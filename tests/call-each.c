@@ -33,6 +33,14 @@ static void files(void) {
     HOLD(consensus_calls(file, sizeof file, 2) == 2 * (uint64_t)(out[0] + out[1]));
 }
 
+static void errors(void) {
+    HOLD(consensus_error_entry(0) == CONSENSUS_ERROR_ONE && consensus_error_entry(94) == 112057 && consensus_error_entry(255) == 0);
+    HOLD(consensus_error_sum(file + 8, 4) == 2 * consensus_error_entry(30) && consensus_error_sum(file + 8, 3) == 281474976710);
+    HOLD(consensus_error_sums(file, sizeof file, out, CONSENSUS_ERROR_SUMS_ROOM) == 13 && memcmp(out, "562949953420\n", 13) == 0);
+    HOLD(consensus_error_sums(file, 2, out, 10) == 10 && memcmp(out, "refused 2\n", 10) == 0);
+    HOLD(consensus_error_sums(file, sizeof file, out, 12) == 0);
+}
+
 static void umis(void) {
     uint64_t reply = consensus_umi(CONSENSUS_CONSENSUS, strings, sizeof strings, out, sizeof out);
     HOLD(CONSENSUS_UMI_LENGTH(reply) == 2 && !CONSENSUS_UMI_HAD_ERRORS(reply) && memcmp(out, "AC", 2) == 0);
@@ -68,6 +76,7 @@ static void numbers(void) {
 
 int main(void) {
     files();
+    errors();
     umis();
     builders();
     numbers();

@@ -63,4 +63,8 @@ exported! {
     listing() [file: u8] to out -> u64;
     records() [file: u8] to out -> u64;
     calls() [file: u8] repeated times -> u64;
+
+    error_entry(quality: u8) -> u64;
+    error_sum() [observations: u8] -> u64;
+    error_sums() [file: u8] to out -> u64;
 }

@@ -14,6 +14,7 @@ use self::listing::{FUNCTIONS, Found, Function, Listed, found_in, observe};
 use crate::builder::{RULES, Settings, TYPICAL};
 use crate::call::{Answer, Call, every_room, some_rooms};
 use crate::environment;
+use crate::errors;
 use crate::exports;
 use crate::hexadecimal::digits;
 use crate::panics;
@@ -26,7 +27,7 @@ const HEAD: &str = "files | how many | calls: list | listed | 1 | 2 | 3 | 4 | 7 
                     too short: list, too short | differ";
 
 /// What is printed of all.
-const TOLD: [&str; 3] = [
+const TOLD: [&str; 4] = [
     "files: {columns} columns listed, {columns called N} of them called N, {empty columns} of them \
      empty, {columns with others} with bytes that are no base, {columns by the rule} called otherwise \
      under the other rule; at most {most columns} in a file, of {most observations} observations at \
@@ -35,13 +36,18 @@ const TOLD: [&str; 3] = [
      of 128 or more} with a byte of 128 or more in it",
     "files: {pre rates} pre rates and {post rates} post rates in {pairs of rates} pairs; {FgbioCompat} \
      under FgbioCompat, {UlpRelative} under UlpRelative",
+    "files: consensus_error_sums of these files, {sums} calls: {sums written} written, {sums of no \
+     column} of them of no column, {sums of refused strings} of files whose strings the listing \
+     refuses, {sums refused} refused by 1 to 4, {sums too short} in too short a buffer; differences \
+     are counted above",
 ];
 
 /// What must have been demanded: without it the files do not show what they are to show.
 const DEMANDED: &str = "1 | 2 | 3 | 4 | 7 | 8 | 9 | a column called N | a column called otherwise | \
                         empty columns | columns with others | columns by the rule | the flag | \
                         no flag | an empty string | a byte of 128 or more | FgbioCompat | \
-                        UlpRelative | each rate on either side";
+                        UlpRelative | each rate on either side | sums written | sums refused | \
+                        sums too short | sums of no column | sums of refused strings";
 
 /// What the rates decide: an observation alone, an agreement of two and a dispute, and one at which a
 /// post rate of 0 makes a lane infinite.
@@ -192,6 +198,14 @@ impl Row {
         if found > 0 || self.counts.of("listed") % SHORT_ONE_IN == 0 {
             self.compare_asked_file(&asked, needed - 1);
         }
+        self.compare_error_sums(&asked, |needed| {
+            vec![
+                needed.saturating_sub(1),
+                needed,
+                needed + 1 + files as usize % 40,
+                1_000 + 12 * needed,
+            ]
+        });
     }
 
     /// A file in the rooms that there are for what it needs.
@@ -200,6 +214,25 @@ impl Row {
             rooms(asked.needed())
                 .into_iter()
                 .for_each(|room| self.compare_asked_file(&asked, room));
+            self.compare_error_sums(&asked, rooms);
+        }
+    }
+
+    /// The error sums of a file, in the rooms that there are for its text. Its strings are not asked.
+    fn compare_error_sums(&mut self, asked: &Asked, rooms: impl Fn(usize) -> Vec<usize>) {
+        let answer = errors::text_of(asked.file);
+        let refused = matches!(&asked.found, Err(number) if *number <= ABSENT_QUALITY);
+        for room in rooms(answer.bytes.len()) {
+            let written = !refused && answer.bytes.len() <= room;
+            self.counts.one("sums");
+            self.counts.add("sums refused", refused);
+            self.counts.add("sums too short", room < answer.bytes.len());
+            self.counts.add("sums written", written);
+            self.counts.add("sums of no column", written && answer.bytes.is_empty());
+            self.counts.add("sums of refused strings", written && asked.found.is_err());
+            let name = || "consensus_error_sums".to_owned();
+            let call = Call { name: &name, ours: &exports::error_sums, input: asked.file, room };
+            self.compare(&call, &answer);
         }
     }
 

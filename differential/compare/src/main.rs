@@ -8,6 +8,7 @@ mod builder;
 mod builders;
 mod call;
 mod environment;
+mod errors;
 mod exports;
 mod files;
 mod hexadecimal;
@@ -32,6 +33,7 @@ usage: compare elementary [--arguments N] [--seed N]   the four elementary funct
        compare builders [--builders N] [--seed N]      builders of any state, bit for bit
        compare umis [--sets N] [--seed N]              the functions of simple_umi.rs, bit for bit
        compare files [--files N] [--seed N]            the listings of column files, byte for byte
+       compare errors [--sums N] [--seed N]            error probabilities of qualities, and their sums
        compare soak [--minutes N] [--seed N]           what these four draw, round after round
        compare history PRE POST RULE SCRIPT [STATE]    one history again, field by field
        compare vectors FILE [--seed N]                 write the stored list of the Rust's answers
@@ -40,13 +42,14 @@ The seed is also taken from the variable DIFFERENTIAL_SEED.";
 
 /// The options that have a number, and what it is where nothing else is asked: how many arguments of
 /// each range are compared, how many histories, how many builders, how many drawn string sets, how many
-/// drawn column files, how many minutes, and the seed.
-const NUMBERS: [(&str, u64); 7] = [
+/// drawn column files, how many drawn sums of errors, how many minutes, and the seed.
+const NUMBERS: [(&str, u64); 8] = [
     ("--arguments", 1_000_000),
     ("--histories", 1_000_000),
     ("--builders", 20_000),
     ("--sets", 20_000),
     ("--files", 20_000),
+    ("--sums", 20_000),
     ("--minutes", 60),
     ("--seed", 1),
 ];
@@ -83,7 +86,7 @@ impl Request {
     /// Does what is asked, and says whether all is as demanded; or what is wrong with the words.
     fn run(&self) -> Result<io::Result<bool>, String> {
         let words: Vec<&str> = self.words.iter().map(String::as_str).collect();
-        let [arguments, histories, builders, sets, files, minutes, seed] = self.numbers;
+        let [arguments, histories, builders, sets, files, sums, minutes, seed] = self.numbers;
         Ok(match words[..] {
             ["elementary"] => numbers::run_elementary(arguments, seed),
             ["phred"] => Ok(numbers::run_phred(arguments, seed)),
@@ -92,6 +95,7 @@ impl Request {
             ["builders"] => Ok(builders::run(builders, seed)),
             ["umis"] => Ok(umis::run(sets, seed)),
             ["files"] => Ok(files::run(files, seed)),
+            ["errors"] => Ok(errors::run(sums, seed)),
             ["soak"] => soak::run(minutes, seed),
             ["history", ref words @ ..] => Ok(history::run(words)?),
             ["vectors", file] => vectors::write(file.as_ref(), seed),

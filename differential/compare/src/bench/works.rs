@@ -9,6 +9,7 @@
 //! the clock starts and keeps its tables: ours needs none for the strings.
 
 use std::hint::black_box;
+use std::io::Write;
 
 use oracle::base_builder::ConsensusBaseBuilder;
 use oracle::base_builder::accessors::{adjusted_tables, call_full, gap_tables};
@@ -17,6 +18,7 @@ use oracle::simple_umi::{SimpleUmiConsensusCaller, consensus_umis};
 use super::{Line, OF_COLUMNS, OF_FILES, Sides, Timed, measured, sides};
 use crate::builder::script::{ADD, CALL_FULL, REPORT, RESET, events};
 use crate::builder::{BASES, Settings, TYPICAL};
+use crate::errors::ENTRIES;
 use crate::exports;
 use crate::files::drawn::{column, filling};
 use crate::files::file::{Parts, read};
@@ -279,7 +281,34 @@ pub fn files(seed: u64) -> Result<Vec<Timed>, String> {
         Repeated::Columns(large.clone(), columns.clone())
             .timed(["add, call", &apart, "a file"], 1)?,
         listing(&small, &SAMPLE, None)?,
+        error_sums(&format!("64 KB, {} columns", columns.len()), &large)?,
     ])
+}
+
+/// A file's error sums as text. The Rust has none: its side is written as one would write them there.
+fn error_sums(arguments: &str, file: &[u8]) -> Result<Timed, String> {
+    let mut text = Vec::new();
+    sum_errors(file, &mut text);
+    let mut out = vec![0; 12 * text.len()];
+    let written = exports::error_sums(file, &mut out);
+    if out.get(..written as usize) != Some(&text[..]) {
+        return Err("error sums: the texts differ".to_owned());
+    }
+    let (one, other) = (file.to_vec(), file.to_vec());
+    let run = sides(
+        move || sum_errors(black_box(&one), black_box(&mut text)),
+        move || exports::error_sums(black_box(&other), black_box(&mut out)),
+    );
+    Ok(timed(["error sums", arguments, "a file"], 1, run, None))
+}
+
+fn sum_errors(file: &[u8], text: &mut Vec<u8>) {
+    text.clear();
+    let entries: &[u64; 256] = &ENTRIES;
+    for column in read(file).expect("a sound file").columns {
+        let sum: u64 = column.chunks_exact(2).map(|pair| entries[usize::from(pair[1])]).sum();
+        writeln!(text, "{sum}").expect("memory takes what is written");
+    }
 }
 
 /// A file to text. Both write into a buffer that they are lent again and again; ours has room for the
