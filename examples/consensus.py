@@ -31,7 +31,7 @@ def records(file):
 
 
 def error_sums(file):
-    """Of each column: the sum of its qualities' error probabilities, in parts of 2^48 and rounded down each."""
+    """Of each column: the sum of its qualities' error probabilities, in units of 2^-48, each rounded down."""
     out = ctypes.create_string_buffer(700_000)
     length = library.consensus_error_sums(file, ctypes.c_size_t(len(file)), out, ctypes.c_size_t(len(out)))
     text = out.raw[:length].decode()

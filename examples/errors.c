@@ -28,7 +28,7 @@ int main(int count, char **words) {
         observations[2 * i + 1] = (uint8_t)(letter - 33);
     }
     uint64_t sum = consensus_error_sum(observations, 2 * many);
-    printf("%zu qualities: %.9f expected errors; the exact sum is from %" PRIu64 " to %" PRIu64 " parts of 2^48\n", many,
+    printf("%zu qualities: %.9f expected errors; the exact sum is from %" PRIu64 " to %" PRIu64 " units of 2^-48\n", many,
            (double)sum / CONSENSUS_ERROR_ONE, sum, sum + many);
     return 0;
 }

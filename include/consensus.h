@@ -67,7 +67,7 @@ uint64_t consensus_records(const uint8_t *file, size_t file_length, uint8_t *out
 
 /* ---- expected errors --------------------------------------------------------------------------------------------------- */
 
-/* The error probability of a quality byte, 10^(-q/10), in parts of 2^48 and rounded down: 2^48 for 0, 0 from 145 on. The byte is
+/* The error probability of a quality byte, 10^(-q/10), in units of 2^-48 and rounded down: 2^48 for 0, 0 from 145 on. The byte is
  * taken as it is: 94 is not 93. */
 #define CONSENSUS_ERROR_ONE 281474976710656
 uint64_t consensus_error_entry(uint8_t quality);
@@ -78,7 +78,7 @@ uint64_t consensus_error_entry(uint8_t quality);
 uint64_t consensus_error_sum(const uint8_t *observations, size_t observations_length);
 
 /* The error sums of a column file as the program `error_sums` prints them: for each column a line with its sum, in file order; a
- * file that is refused by conditions 1 to 4 gives the text "refused N\n". Its strings are not tested otherwise. Reply: the text's
+ * file that is refused by conditions 1 to 4 gives the text "refused N\n". Conditions 7 to 9 are not tested. Reply: the text's
  * length; 0 where OUT is too short, and for a file without columns, whose text is empty. A buffer of CONSENSUS_ERROR_SUMS_ROOM
  * holds every text. */
 #define CONSENSUS_ERROR_SUMS_ROOM 700000

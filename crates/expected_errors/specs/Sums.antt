@@ -1,4 +1,4 @@
--- The expected errors of a column: what its qualities' error probabilities add up to, in parts of 2^48.
+-- The expected errors of a column: what its qualities' error probabilities add up to, in units of 2^−48.
 use Prim.Native.Nat.{ℕ}
 use mathlib.Core.List.{List}
 use lib.ListN.{getD}

@@ -1,4 +1,4 @@
--- The error probability of each quality, as a whole number of parts of 2^48.
+-- The error probability of each quality in units of 2^−48, rounded down to a whole number.
 use Prim.Native.Nat.{ℕ, _+_, _*_, _^_, _≤_, _<_}
 use mathlib.Core.Bool.{Bool, _&&_}
 use mathlib.Core.List.{List, [], _∷_}

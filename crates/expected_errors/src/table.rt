@@ -1,5 +1,4 @@
-// The error probability of each quality byte, as a whole number of parts of 2^48: 10^(-q/10) times 2^48,
-// rounded down.
+// The error probability of each quality byte in units of 2^-48: 10^(-q/10) times 2^48, rounded down.
 ghost use mathlib.Core.Path.{_≡_};
 ghost use Rattle.expected_errors.specs.Table.{errorTable, errorOf};
 use widths::wide;
