@@ -4,13 +4,12 @@ use mathlib.Core.Bool.{Bool, true, false, not}
 use mathlib.Core.List.{List}
 use Prim.Native.Nat.{ℕ, _≤_, _<_}
 use native.Mathlib.Omega.{arith}
-use borrow.Author.Tests.{not-true, not-false, leb-true, leb-false}
 use lib.Dec.{leb}
 use lib.ListN.{length}
 use Rattle.lent_bytes.specs.Buffer.{lengthWritten, written}
 use Rattle.lent_bytes.proofs.Buffer.{short-written, fits-replied, short-replied}
 use Rattle.lent_text.specs.Printed.{Printed}
-use Rattle.lent_text.proofs.Printed.{printed-as, printed-written}
+use Rattle.lent_text.proofs.Printed.{printed-as, printed-written, measured-long, measured-fits}
 use Rattle.refusals.specs.declared.Refusal.{Refusal}
 use Rattle.refusals.specs.declared.Refusal.the-variants.{FileTooLong}
 use Rattle.refusals.specs.Result.{Result, refused, accepted, andThen}
@@ -50,19 +49,16 @@ module _ (s : List ℕ) where
 -- ---- a text and its room, by the test of a text u, which is t in other words
 
 module _ (t out u : List ℕ) (e : u ≡ t) (b : Bool) (k : b ≡ leb (length u) (length out)) where
-  tested : b ≡ leb (length t) (length out)
-  tested = k ∙ ap (λ (x : List ℕ). leb (length x) (length out)) e
-
   -- too long
   pub not-printed : not b ≡ true → (0 ≡ lengthWritten t out) × (out ≡ written t out)
   not-printed h =
-      let long = leb-false (length t) (length out) (sym tested ∙ not-true b h) in
+      let long = measured-long t out u e b k h in
       (short-replied t out long, short-written t out long)
 
   -- printed
   pub all-printed : not b ≡ false → (w : ℕ) (o : List ℕ) → Printed out 0 u o w → (w ≡ lengthWritten t out) × (o ≡ written t out)
   all-printed h w o p =
-      let inside = leb-true (length t) (length out) (sym tested ∙ not-false b h) in
+      let inside = measured-fits t out u e b k h in
       let q = printed-written (printed-as p e) inside in
       (q .0 ∙ fits-replied t out inside, q .1)
 

@@ -4,7 +4,7 @@ use mathlib.Core.Bool.{Bool, true, false, not}
 use mathlib.Core.List.{List}
 use Prim.Native.Nat.{ℕ, _≤_}
 use native.Mathlib.Omega.{arith}
-use borrow.Author.Tests.{not-true, not-false, le-leb, le-ltb, lt-ltb, leb-true, leb-false, ltb-true}
+use borrow.Author.Tests.{le-leb, lt-leb, le-ltb, lt-ltb, leb-true, leb-false, ltb-true}
 use lib.Dec.{leb, ltb}
 use lib.ListN.{length}
 use lib.Ieee.{Float}
@@ -12,7 +12,7 @@ use Rattle.words.proofs.Cases.{test, choice}
 use Rattle.lent_bytes.specs.Buffer.{lengthWritten, written}
 use Rattle.lent_bytes.proofs.Buffer.{short-written}
 use Rattle.lent_text.specs.Printed.{Printed}
-use Rattle.lent_text.proofs.Printed.{printed-as, printed-written}
+use Rattle.lent_text.proofs.Printed.{printed-as, printed-written, measured-long, measured-fits}
 use Rattle.refusals.specs.declared.Refusal.{Refusal}
 use Rattle.refusals.specs.declared.Refusal.the-variants.{BufferTooShort}
 use Rattle.refusals.specs.Refusals.{numberIn}
@@ -62,21 +62,18 @@ fits-short n most room h k = sym (le-leb n room (omega arith))
 
 -- by the test of a text u, which is t in other words
 module _ (t out u : List ℕ) (e : u ≡ t) (b : Bool) (k : b ≡ leb (length u) (length out)) where
-  tested : b ≡ leb (length t) (length out)
-  tested = k ∙ ap (λ (x : List ℕ). leb (length x) (length out)) e
-
   -- too long
   pub outcome-short : not b ≡ true → (outcome.TooShort ≡ outcomeOf out (accepted t)) × (out ≡ written t out)
   outcome-short h =
-      let f : leb (length t) (length out) ≡ false = sym tested ∙ not-true b h in
-      (rw f, short-written t out (leb-false (length t) (length out) f))
+      let long = measured-long t out u e b k h in
+      (rw (lt-leb (length t) (length out) long), short-written t out long)
 
   -- printed
   pub outcome-put : not b ≡ false → (w : ℕ) (o : List ℕ) → Printed out 0 u o w → (outcome.Written w ≡ outcomeOf out (accepted t)) × (o ≡ written t out)
   outcome-put h w o p =
-      let f : leb (length t) (length out) ≡ true = sym tested ∙ not-false b h in
-      let q = printed-written (printed-as p e) (leb-true (length t) (length out) f) in
-      (rw (f, q .0), q .1)
+      let inside = measured-fits t out u e b k h in
+      let q = printed-written (printed-as p e) inside in
+      (rw (le-leb (length t) (length out) inside, q .0), q .1)
 
 module _ (t out : List ℕ) where
   room-buffer : listingBuffer out (roomForText out t) ≡ written t out

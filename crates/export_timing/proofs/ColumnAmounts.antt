@@ -1,6 +1,6 @@
 -- What the calls of columns add up to, one column at a time, by the file's settings, and for a file by what `read` says of it. Assumes nothing.
 use mathlib.Core.Path.{_≡_, refl}
-use mathlib.Core.List.{List, [], _∷_}
+use mathlib.Core.List.{List}
 use Prim.Native.Nat.{ℕ, _+_, _-_, _*_, _%_, _^_, _≤_, _<_}
 use Rattle.refusals.specs.declared.Refusal.{Refusal}
 use Rattle.refusals.specs.Result.{refused}
@@ -41,8 +41,7 @@ module _ (called : List Observation → ColumnCall) (s : List ℕ) (at n : ℕ) 
 -- by a file's settings
 pub amounts-with : (g : Settings) (cs : List (List Observation)) → amountsWith (calledColumn g) cs ≡ columnAmounts g cs
 unfolding amountsWith columnAmounts calledColumn
-amounts-with g [] = refl
-amounts-with g (c ∷ cs) = rw (amounts-with g cs)
+amounts-with g cs = refl
 
 -- of a file
 module _ (s : List ℕ) (times : ℕ) where

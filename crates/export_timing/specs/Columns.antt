@@ -1,6 +1,7 @@
 -- The columns of a file called many times, for timing: what their calls add up to.
-use Prim.Native.Nat.{ℕ, _+_, _*_, _%_, _^_}
-use mathlib.Core.List.{List, [], _∷_}
+use Prim.Native.Nat.{ℕ, _*_, _%_, _^_}
+use mathlib.Core.List.{List}
+use Rattle.words.specs.Lists.{addedUp}
 use Rattle.refusals.specs.Result.{Result, refused, accepted}
 use Rattle.column_file.specs.declared.settings.Settings.{Settings}
 use Rattle.column_file.specs.Format.{Observation}
@@ -11,8 +12,7 @@ use Rattle.export_timing.specs.Amounts.{amountOf}
 
 -- of all columns
 unfoldable pub columnAmounts : Settings → List (List Observation) → ℕ
-columnAmounts g [] = 0
-columnAmounts g (c ∷ cs) = amountOf (columnCall g c) + columnAmounts g cs
+columnAmounts g cs = addedUp (λ c. amountOf (columnCall g c)) cs
 
 -- that number of times, in 64 bits; 0 for a refused file
 abbrev pub callsIn : Result File → ℕ → ℕ
@@ -25,5 +25,4 @@ callsOf s times = callsIn (readFile s) times
 
 -- of all columns, by what is called of each: what the functions that borrow windows and tables say
 unfoldable pub amountsWith : (List Observation → ColumnCall) → List (List Observation) → ℕ
-amountsWith called [] = 0
-amountsWith called (c ∷ cs) = amountOf (called c .call) + amountsWith called cs
+amountsWith called cs = addedUp (λ c. amountOf (called c .call)) cs

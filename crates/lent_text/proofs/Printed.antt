@@ -1,10 +1,11 @@
 -- Texts printed into a lent buffer, one after another, and what the buffer then holds. Assumes nothing.
 use mathlib.Core.Path.{_≡_, refl, sym, _∙_, ap}
+use mathlib.Core.Bool.{Bool, true, false, not}
 use mathlib.Core.List.{List, [], _∷_, _++_, append-assoc, append-nil}
-use Prim.Native.Nat.{ℕ, suc, _+_, _≤_, min}
+use Prim.Native.Nat.{ℕ, suc, _+_, _≤_, _<_, min}
 use native.Mathlib.Nat.{min-eq-left}
 use native.Mathlib.Omega.{arith}
-use borrow.Author.Tests.{leb-true, leb-false}
+use borrow.Author.Tests.{leb-true, leb-false, not-true, not-false}
 use lib.Dec.{leb}
 use lib.ListN.{length, take, length-append}
 use lib.Seq.{sets, set-out, length-sets}
@@ -62,6 +63,18 @@ pub printed-front : {o o1 t : List ℕ} {w1 : ℕ} → Printed o 0 t o1 w1 → l
 printed-front {o} {o1} {t} {w1} p h =
     let q = printed-written p h in
     rw (q .0, q .1) (written-front t o h)
+
+-- ---- a text t that was measured first: b is the test of u, which is t in other words
+
+module _ (t out u : List ℕ) (e : u ≡ t) (b : Bool) (k : b ≡ leb (length u) (length out)) where
+  measured : b ≡ leb (length t) (length out)
+  measured = k ∙ ap (λ (x : List ℕ). leb (length x) (length out)) e
+
+  pub measured-long : not b ≡ true → length out < length t
+  measured-long h = leb-false (length t) (length out) (sym measured ∙ not-true b h)
+
+  pub measured-fits : not b ≡ false → length t ≤ length out
+  measured-fits h = leb-true (length t) (length out) (sym measured ∙ not-false b h)
 
 -- ---- what is printed so far and what is left
 
