@@ -29,6 +29,11 @@ int main(int argc, char **argv) {
     uint64_t reply = consensus_umi(CONSENSUS_CONSENSUS, set, length, text, sizeof text);
     if (CONSENSUS_IS_REFUSED(reply)) {
         fprintf(stderr, "umi: refused by condition %d\n", (int)reply);
+        /* By 7, 8 or 9: the cause is among the bytes that are not DNA. */
+        for (int i = 1; i < argc; i++)
+            for (size_t k = 0; argv[i][k]; k++)
+                if (!consensus_is_dna_base((uint8_t)argv[i][k]))
+                    fprintf(stderr, "umi: not DNA: string %d, byte %zu\n", i, k + 1);
         return 1;
     }
     printf("%.*s %s\n", (int)CONSENSUS_UMI_LENGTH(reply), (const char *)text, CONSENSUS_UMI_HAD_ERRORS(reply) ? "true" : "false");

@@ -86,6 +86,10 @@ uint64_t consensus_error_sums(const uint8_t *file, size_t file_length, uint8_t *
 
 /* ---- UMI strings ------------------------------------------------------------------------------------------------------- */
 
+/* Whether a byte counts as DNA in a UMI string, as conditions 8 and 9 take it: 1 for A, C, G, T and N in either case, 0 for every
+ * other byte. */
+uint8_t consensus_is_dna_base(uint8_t b);
+
 /* Which function of simple_umi.rs. */
 enum consensus_umi_function {
     CONSENSUS_CALL_CONSENSUS = 0,

@@ -42,6 +42,7 @@ static void errors(void) {
 }
 
 static void umis(void) {
+    HOLD(consensus_is_dna_base('n') == 1 && consensus_is_dna_base('-') == 0 && consensus_is_dna_base(0xC1) == 0);
     uint64_t reply = consensus_umi(CONSENSUS_CONSENSUS, strings, sizeof strings, out, sizeof out);
     HOLD(CONSENSUS_UMI_LENGTH(reply) == 2 && !CONSENSUS_UMI_HAD_ERRORS(reply) && memcmp(out, "AC", 2) == 0);
     HOLD(!CONSENSUS_UMI_HAD_ERRORS_B(reply));

@@ -1,11 +1,24 @@
-// The consensus of UMI strings, by the number of the function.
+// The DNA test, and the consensus of UMI strings by the number of the function.
 ghost use mathlib.Core.Path.{_≡_};
 ghost use Rattle.lent_bytes.specs.Buffer.{lengthWritten, written};
+ghost use Rattle.umi_column.specs.Dna.{isDnaBase};
 ghost use Rattle.simple_consensus.specs.Consensus.{callerAt};
-ghost use Rattle.export_umi.specs.Codes.{umiReply, umiBuffer};
+ghost use Rattle.export_umi.specs.Codes.{bit, umiReply, umiBuffer};
 ghost use Rattle.export_umi.specs.Sent.{callerReply, callerBuffer};
 ghost use Rattle.export_umi_sets.specs.Answers.{umiSetsBytes};
 use phred::PhredScore;
+use simple_consensus::SimpleConsensusCaller;
+
+// 1 for A, C, G, T and N in either case, 0 for the other bytes.
+#[no_mangle]
+pub extern "C" fn consensus_is_dna_base(b: u8) -> u8
+    ensures { λ r. ⌜ r ≡ bit (isDnaBase b) ⌝ }
+{
+    if SimpleConsensusCaller::is_dna_base(b) {
+        return 1;
+    }
+    0
+}
 
 // At the defaults.
 #[no_mangle]

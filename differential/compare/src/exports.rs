@@ -55,6 +55,7 @@ exported! {
     builder(pre: u8, post: u8, rule: u8) [state: u8, script: u8] to out -> u64;
     observations() [state: u8] to out -> u64;
 
+    is_dna_base(b: u8) -> u8;
     umi(which: u8) [set: u8] to out -> u64;
     umi_caller(pre: u8, post: u8, quality: u8, which: u8) [set: u8] to out -> u64;
     umi_sets(pre: u8, post: u8, quality: u8, which: u8) [sets: u8] to out -> u64;

@@ -1,6 +1,7 @@
 //! UMI sets, ours beside the Rust's: strings, flags, refusals, and the caller's builder afterwards.
 
 mod characters;
+mod dna;
 pub mod families;
 mod fixed;
 pub mod rust;
@@ -51,8 +52,9 @@ pub fn run(sets: u64, seed: u64) -> bool {
     rows.push(damaged(sets, true, &mut random));
     rows.push(in_rooms(sets, &mut random));
     let sequences = sequences::row(sets / SETS_FOR_A_SEQUENCE, &mut random);
-    let holds = [print(&rows), sequences::print(&sequences), characters::print()];
-    verdict("umis", holds == [true; 3])
+    let holds =
+        [print(&rows), sequences::print(&sequences), characters::print(), dna::print()];
+    verdict("umis", holds == [true; 4])
 }
 
 /// The rows that depend on the seed, but for the damaged copies of a long set: they are many, and

@@ -18,4 +18,10 @@ pub mod accessors {
     pub fn wrapped_builder(caller: &SimpleUmiConsensusCaller) -> &ConsensusBaseBuilder {
         &caller.caller.builder
     }
+
+    /// [`SimpleConsensusCaller::is_dna_base`].
+    #[must_use]
+    pub fn is_dna_base(b: u8) -> bool {
+        SimpleConsensusCaller::is_dna_base(b)
+    }
 }

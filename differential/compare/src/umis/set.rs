@@ -141,9 +141,12 @@ fn of_family(strings: &[&[u8]]) -> Option<u64> {
     (0..strings[0].len()).find_map(|place| of_column(strings, place))
 }
 
+/// N counts as DNA.
+pub fn is_dna(byte: u8) -> bool {
+    b"ACGTNacgtn".contains(&byte)
+}
+
 fn of_column(strings: &[&[u8]], place: usize) -> Option<u64> {
-    // N counts as DNA
-    let is_dna = |byte: u8| b"ACGTNacgtn".contains(&byte);
     let column = || strings.iter().map(|string| string[place]);
     let first = strings[0][place];
     if column().any(|byte| !is_dna(byte) && byte != first) {
