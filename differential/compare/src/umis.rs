@@ -52,8 +52,7 @@ pub fn run(sets: u64, seed: u64) -> bool {
     rows.push(damaged(sets, true, &mut random));
     rows.push(in_rooms(sets, &mut random));
     let sequences = sequences::row(sets / SETS_FOR_A_SEQUENCE, &mut random);
-    let holds =
-        [print(&rows), sequences::print(&sequences), characters::print(), dna::print()];
+    let holds = [print(&rows), sequences::print(&sequences), characters::print(), dna::print()];
     verdict("umis", holds == [true; 4])
 }
 
