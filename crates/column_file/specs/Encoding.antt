@@ -22,6 +22,10 @@ ruleNumber UlpRelative = 1
 unfoldable pub settingsBytes : Settings → List ℕ
 settingsBytes g = 3 ∷ g .«error_rate_pre_umi» .0 ∷ g .«error_rate_post_umi» .0 ∷ ruleNumber (g .«tie_rule») ∷ []
 
+-- with the number of columns that follow, as they are lent to a writer
+abbrev pub announcedBytes : Settings → ℕ → List ℕ
+announcedBytes g n = settingsBytes g ++ wordBytes n
+
 -- an observation: its base, then its quality
 abbrev pub observationBytes : Observation → List ℕ
 observationBytes o = o .base ∷ o .quality ∷ []

@@ -30,7 +30,7 @@ use Rattle.column_file_laws.specs.Encoding.{isByte, InFormat, BothWays}
 -- ---- what holds of all that is taken, or accepted
 
 -- P holds of what is taken and what is left
-abbrev Taking : {A : Type 0} → (A → List ℕ → Type 0) → Taken A → Type 0
+abbrev pub Taking : {A : Type 0} → (A → List ℕ → Type 0) → Taken A → Type 0
 Taking P short = Unit {0}
 Taking P (taken a r) = P a r
 
@@ -39,44 +39,44 @@ weaker P Q short h k = tt
 weaker P Q (taken a r) h k = k a r h
 
 -- from a part to what goes on with it
-after : {A B : Type 0} (P : A → List ℕ → Type 0) (Q : B → List ℕ → Type 0) (t : Taken A) (f : A → List ℕ → Taken B) → Taking P t
+pub after : {A B : Type 0} (P : A → List ℕ → Type 0) (Q : B → List ℕ → Type 0) (t : Taken A) (f : A → List ℕ → Taken B) → Taking P t
     → ((a : A) (r : List ℕ) → P a r → Taking Q (f a r)) → Taking Q (next t f)
 after P Q short f h k = tt
 after P Q (taken a r) f h k = k a r h
 
 -- P holds of what is accepted
-abbrev Accepting : {A : Type 0} → (A → Type 0) → Result A → Type 0
+abbrev pub Accepting : {A : Type 0} → (A → Type 0) → Result A → Type 0
 Accepting P (refused r) = Unit {0}
 Accepting P (accepted a) = P a
 
 -- from what is accepted to what goes on with it
-further : {A B : Type 0} (P : A → Type 0) (Q : B → Type 0) (t : Result A) (f : A → Result B) → Accepting P t → ((a : A) → P a → Accepting Q (f a))
+pub further : {A B : Type 0} (P : A → Type 0) (Q : B → Type 0) (t : Result A) (f : A → Result B) → Accepting P t → ((a : A) → P a → Accepting Q (f a))
     → Accepting Q (andThen t f)
 further P Q (refused r) f h k = tt
 further P Q (accepted a) f h k = k a h
 
-judged-sound : {A : Type 0} (P : A → Type 0) (v : Verdict) (a : A) → (v ≡ Sound → P a) → Accepting P (judged v a)
+pub judged-sound : {A : Type 0} (P : A → Type 0) (v : Verdict) (a : A) → (v ≡ Sound → P a) → Accepting P (judged v a)
 judged-sound P Sound a h = h refl
 judged-sound P (Refused r) a h = tt
 
 -- ---- any kind of part, by what reads it and its bytes
 
 -- s was its bytes, and then what is left
-abbrev Off : {A : Type 0} → (A → List ℕ) → List ℕ → A → List ℕ → Type 0
+abbrev pub Off : {A : Type 0} → (A → List ℕ) → List ℕ → A → List ℕ → Type 0
 Off bytes s a r = bytes a ++ r ≡ s
 
-record Kind {A : Type 0} (one : List ℕ → Taken A) (bytes : A → List ℕ) : Type 0 where
+pub record Kind {A : Type 0} (one : List ℕ → Taken A) (bytes : A → List ℕ) : Type 0 where
   -- its bytes are read back
-  back : (a : A) (r : List ℕ) → one (bytes a ++ r) ≡ taken a r
+  pub back : (a : A) (r : List ℕ) → one (bytes a ++ r) ≡ taken a r
   -- and only they are read so
-  off : (s : List ℕ) → every isByte s ≡ true → Taking (Off bytes s) (one s)
+  pub off : (s : List ℕ) → every isByte s ≡ true → Taking (Off bytes s) (one s)
 
 -- what is left of bytes is bytes
 end-bytes : (l r : List ℕ) → every isByte (l ++ r) ≡ true → every isByte r ≡ true
 end-bytes [] r h = h
 end-bytes (x ∷ l) r h = end-bytes l r (both (isByte x) (every isByte (l ++ r)) h .1)
 
-left-bytes : (l r s : List ℕ) → l ++ r ≡ s → every isByte s ≡ true → every isByte r ≡ true
+pub left-bytes : (l r s : List ℕ) → l ++ r ≡ s → every isByte s ≡ true → every isByte r ≡ true
 left-bytes l r s e h = end-bytes l r (rw e h)
 
 -- one after another
@@ -115,13 +115,13 @@ module _ {A : Type 0} (number : List ℕ → Taken ℕ) (digits : ℕ → List �
 
 -- alone
 module _ {A : Type 0} (one : List ℕ → Taken A) (bytes : A → List ℕ) (k : Kind one bytes) where
-  lone-back : (a : A) → length (bytes a) ≤ longestFile → lone one (bytes a) ≡ accepted a
+  pub lone-back : (a : A) → length (bytes a) ≤ longestFile → lone one (bytes a) ≡ accepted a
   lone-back a h =
       let e : one (bytes a) ≡ taken a [] = rw (append-nil (bytes a)) at (k .back a []) in
       rw (le-ltb longestFile (length (bytes a)) h, e)
 
   -- s is its bytes, and not too long
-  abbrev Whole : List ℕ → A → Type 0
+  abbrev pub Whole : List ℕ → A → Type 0
   Whole s a = (bytes a ≡ s) × (length s ≤ longestFile)
 
   alone-off : (s : List ℕ) → length s ≤ longestFile → (t : Taken A) → Taking (Off bytes s) t → Accepting (Whole s) (alone t)
@@ -129,7 +129,7 @@ module _ {A : Type 0} (one : List ℕ → Taken A) (bytes : A → List ℕ) (k :
   alone-off s h (taken a []) e = (sym (append-nil (bytes a)) ∙ e, h)
   alone-off s h (taken a (x ∷ r)) e = tt
 
-  lone-off : (s : List ℕ) → every isByte s ≡ true → Accepting (Whole s) (lone one s)
+  pub lone-off : (s : List ℕ) → every isByte s ≡ true → Accepting (Whole s) (lone one s)
   lone-off s h =
       choice (Accepting (Whole s)) (ltb longestFile (length s)) (refused FileTooLong) (alone (one s))
       (λ e. tt)
@@ -155,7 +155,7 @@ low-byte a b h = omega arith
 high-byte : (a b : ℕ) → a < 256 → (a + 256 * b) / 256 ≡ b
 high-byte a b h = omega arith
 
-word-kind : Kind word wordBytes
+pub word-kind : Kind word wordBytes
 unfolding word byte
 word-kind = record { back = λ n r. ap (λ (m : ℕ). taken m r) (omega arith); off = off }
   where
@@ -180,7 +180,7 @@ string-kind = record { back = back; off = off }
         (λ e. rw (length-take-le n s (leb-true n (length s) e), take-append-drop n s))
         (λ e. tt)
 
-set-kind : Kind stringSet stringSetBytes
+pub set-kind : Kind stringSet stringSetBytes
 unfolding stringSet stringSetBytes
 set-kind = counted byte byteBytes byte-kind string stringBytes string-kind
 
@@ -193,7 +193,7 @@ observation-kind = record { back = λ o r. refl; off = off }
     off (b ∷ []) h = tt
     off (b ∷ q ∷ r) h = refl
 
-column-kind : Kind column columnBytes
+pub column-kind : Kind column columnBytes
 unfolding column columnBytes
 column-kind = counted word wordBytes word-kind observation observationBytes observation-kind
 
@@ -202,7 +202,7 @@ unfolding columns columnsBytes
 columns-kind = counted word wordBytes word-kind column columnBytes column-kind
 
 -- settings, before it is seen what they say, are laid out as a string
-settings-kind : Kind settings stringBytes
+pub settings-kind : Kind settings stringBytes
 unfolding settings string
 settings-kind = string-kind
 
@@ -241,11 +241,11 @@ number-back (suc n) h =
     let e : n ≡ 0 = omega arith in
     rw e
 
-settings-back : (g : Settings) → settingsOf (g .«error_rate_pre_umi» .0 ∷ g .«error_rate_post_umi» .0 ∷ ruleNumber (g .«tie_rule») ∷ []) ≡ accepted g
+pub settings-back : (g : Settings) → settingsOf (g .«error_rate_pre_umi» .0 ∷ g .«error_rate_post_umi» .0 ∷ ruleNumber (g .«tie_rule») ∷ []) ≡ accepted g
 unfolding settingsOf
 settings-back g = rw (rule-back (g .«tie_rule») .0, rule-back (g .«tie_rule») .1)
 
-settings-off : (l : List ℕ) → Accepting (λ g. settingsBytes g ≡ stringBytes l) (settingsOf l)
+pub settings-off : (l : List ℕ) → Accepting (λ g. settingsBytes g ≡ stringBytes l) (settingsOf l)
 unfolding settingsOf settingsBytes stringBytes
 settings-off [] = tt
 settings-off (a ∷ []) = tt

@@ -18,7 +18,7 @@ use Rattle.column_file.specs.Reading.{settingsOf, observationVerdict, columnVer
 use Rattle.column_file_laws.specs.Conditions.{isSettings, isAbsent, FileConditions}
 
 -- 4 by a test
-abbrev absentIf : Bool → Verdict
+abbrev pub absentIf : Bool → Verdict
 absentIf b =
     if b then Refused AbsentQuality
     else Sound
@@ -32,7 +32,7 @@ first-absent : {A : Type 0} (verdict : A → Verdict) (p : A → Bool) → ((a :
 first-absent verdict p h [] = refl
 first-absent verdict p h (a ∷ l) = rw (h a, first-absent verdict p h l) (either (p a) (any p l))
 
-column-absent : (c : List Observation) → columnVerdict c ≡ absentIf (any isAbsent c)
+pub column-absent : (c : List Observation) → columnVerdict c ≡ absentIf (any isAbsent c)
 unfolding columnVerdict observationVerdict
 column-absent c = first-absent observationVerdict isAbsent (λ o. refl) c
 

@@ -1,3 +1,4 @@
 pub mod Both
+pub mod Parts
 pub mod ConditionLaws
 pub mod Examples

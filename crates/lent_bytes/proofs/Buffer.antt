@@ -9,7 +9,7 @@ use borrow.Author.Tests.{le-leb, lt-leb}
 use lib.ListN.{length, take, drop, set, drop-of-length-le}
 use lib.Seq.{sets, sets-eq, take-append-seam}
 use Rattle.words.specs.Lists.{byteAt}
-use Rattle.lent_bytes.specs.Buffer.{lengthWritten, written}
+use Rattle.lent_bytes.specs.Buffer.{lengthWritten, written, writtenAt}
 use Rattle.lent_bytes.proofs.Lists.{bytes-from}
 
 -- byte i of the bytes set at place k, and then the others
@@ -27,7 +27,22 @@ sets-append l i (x ∷ a) b =
     let e : i + suc (length a) ≡ suc i + length a = omega arith in
     ap (λ (k : ℕ). sets (sets (set l i x) (suc i) a) k b) e ∙ sets-append (set l i x) (suc i) a b
 
+-- bytes from a place on
+module _ (at : ℕ) (bs out : List ℕ) where
+  pub fits-written-at : at + length bs ≤ length out → sets out at bs ≡ writtenAt at bs out
+  unfolding writtenAt
+  fits-written-at h = rw (le-leb (at + length bs) (length out) h) (sets-eq bs out at h)
+
+  pub short-written-at : length out < at + length bs → out ≡ writtenAt at bs out
+  unfolding writtenAt
+  short-written-at h = rw (lt-leb (at + length bs) (length out) h)
+
 module _ (bs out : List ℕ) where
+  -- at the front
+  pub written-at-0 : writtenAt 0 bs out ≡ written bs out
+  unfolding written writtenAt
+  written-at-0 = rw (zero-add (length bs))
+
   pub fits-written : length bs ≤ length out → sets out 0 bs ≡ written bs out
   unfolding written
   fits-written h = rw (le-leb (length bs) (length out) h) (sets-eq bs out 0 (omega arith) ∙ ap (λ (i : ℕ). bs ++ drop i out) (zero-add (length bs)))

@@ -1,4 +1,4 @@
-// Bytes compared, numbers read from bytes, and bytes put at the front of a borrowed buffer.
+// Bytes compared, numbers read from bytes, and bytes put into a borrowed buffer.
 ghost use mathlib.Core.Path.{_≡_};
 ghost use mathlib.Core.List.{_++_};
 ghost use Prim.Native.Nat.{_+_, _≤_, _<_};
@@ -6,7 +6,7 @@ ghost use lib.Dec.{leb};
 ghost use lib.ListN.{length};
 ghost use lib.Seq.{sets};
 ghost use Rattle.words.specs.Lists.{byteAt, sameBytes};
-ghost use Rattle.lent_bytes.specs.Buffer.{written};
+ghost use Rattle.lent_bytes.specs.Buffer.{written, writtenAt};
 ghost use Rattle.lent_bytes.specs.Bytes.{numberAt};
 use widths::u8_as_u64;
 
@@ -71,16 +71,28 @@ fn copy_at(out: &mut [u8], at: usize, bytes: &[u8])
     }
 }
 
-// Whether the bytes fit, and so were put there. A buffer that is too short is left as it is.
-pub fn write_front(out: &mut [u8], bytes: &[u8]) -> bool
-    ensures reply { λ r. ⌜ r ≡ leb (length (now (bytes .entry))) (length (now (out .entry))) ⌝ }
-    ensures lent { λ _. ⌜ now (out .exit) ≡ written (now (bytes .entry)) (now (out .entry)) ⌝ }
+// Whether the bytes fit from a place on, and so were put there. A buffer that is too short is left as it
+// is.
+pub fn write_at(out: &mut [u8], at: usize, bytes: &[u8]) -> bool
+    ensures reply { λ r. ⌜ r ≡ leb (at + length (now (bytes .entry))) (length (now (out .entry))) ⌝ }
+    ensures lent { λ _. ⌜ now (out .exit) ≡ writtenAt at (now (bytes .entry)) (now (out .entry)) ⌝ }
 {
     if out.len() < bytes.len() {
         return false;
     }
-    copy_at(out, 0, bytes);
+    if out.len() - bytes.len() < at {
+        return false;
+    }
+    copy_at(out, at, bytes);
     true
+}
+
+// The same at its front.
+pub fn write_front(out: &mut [u8], bytes: &[u8]) -> bool
+    ensures reply { λ r. ⌜ r ≡ leb (length (now (bytes .entry))) (length (now (out .entry))) ⌝ }
+    ensures lent { λ _. ⌜ now (out .exit) ≡ written (now (bytes .entry)) (now (out .entry)) ⌝ }
+{
+    write_at(out, 0, bytes)
 }
 
 // The same with bytes in two parts, one after the other.

@@ -1,4 +1,5 @@
-// All numbered conditions (SCOPE 7) under which something is refused: a column file or a part of one, a string set, a base.
+// All numbered conditions (SCOPE 7) under which something is refused: a column file or a part of one, a string set, a base, a step of
+// writing.
 ghost use mathlib.Core.Path.{_≡_};
 ghost use Rattle.refusals.specs.Refusals.{numberOf, verdictNumber, firstNumber};
 ghost use Rattle.refusals.specs.Result.{orElse};
@@ -27,6 +28,10 @@ pub enum Refusal {
     BufferTooShort,
     // 11, a base meets a builder that has counted 4,294,967,295 or more: `addAnswer` in base_builder/specs/Builder.
     FullBuilder,
+    // 12, the buffer has no room for a part of the file: `roomForPart` in column_writer/specs/Writing.
+    NoRoomForPart,
+    // 13, a step of writing out of turn: `inTurn` and `awaitsFinish` in column_writer/specs/Stages.
+    OutOfTurn,
 }
 
 // What a test says.
@@ -62,5 +67,7 @@ pub fn number(refusal: Refusal) -> u8
         Refusal::Mixed => 9,
         Refusal::BufferTooShort => 10,
         Refusal::FullBuilder => 11,
+        Refusal::NoRoomForPart => 12,
+        Refusal::OutOfTurn => 13,
     }
 }
