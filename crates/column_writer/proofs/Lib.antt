@@ -1,0 +1,2 @@
+pub mod NextStages
+pub mod Said

@@ -1,0 +1,1 @@
+// No code: what holds of every list of steps of writing a column file.
