@@ -8,6 +8,7 @@ use Rattle.simple_umi.specs.Answers.{consensusIn, duplexIn}
 use Rattle.umi_groups.proofs.Room.{room-short, room-enough}
 use Rattle.simple_umi_laws.proofs.ConditionLaws.{conditions as string-conditions}
 use Rattle.column_file_laws.proofs.ConditionLaws.{conditions as file-conditions}
+use Rattle.column_writer_laws.proofs.ConditionLaws.{part-conditions, finish-conditions}
 use Rattle.base_builder_laws.proofs.GoodCalls.{good-calls}
 use Rattle.base_builder_laws.proofs.AddConditions.{add-conditions}
 use Rattle.demands.specs.Demand1.{text, duplexText, Demand1}
@@ -28,5 +29,7 @@ demand1 = record {
       (λ d h. rw (room-short out (d .found) h)) (λ d h. rw (room-enough out (d .found) h));
   files = file-conditions;
   listings = listing-conditions;
+  parts = part-conditions;
+  finishes = finish-conditions;
   unchanged = unchanged;
 }

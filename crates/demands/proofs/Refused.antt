@@ -79,5 +79,7 @@ unchanged r = record {
   caller = λ c said e. rw e;
   buffer = λ out said e. rw e;
   listing-buffer = λ out said e. rw e;
+  writer = λ w said e. rw e;
+  file = λ w part file said e. rw e;
   places = λ ps said e. rw e;
 }

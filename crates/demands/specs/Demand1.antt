@@ -13,6 +13,9 @@ use Rattle.simple_consensus.specs.Answers.{callConsensusIn, consensusUmisIn}
 use Rattle.simple_umi.specs.Answers.{consensusIn, duplexIn}
 use Rattle.simple_umi_laws.specs.Laws.{StringConditions}
 use Rattle.column_file_laws.specs.Conditions.{FileConditions}
+use Rattle.column_writer.specs.declared.stages.PartKind.{PartKind}
+use Rattle.column_writer.specs.declared.writer.Writer.{Writer}
+use Rattle.column_writer_laws.specs.Conditions.{PartConditions, FinishConditions}
 use Rattle.demands.specs.Refused.{SetConditions, InTurn, ListingConditions, Unchanged}
 
 -- the string of an answer, of one set and of two strands
@@ -40,5 +43,8 @@ pub record Demand1 : Type 0 where
   pub files : (s : List ℕ) → FileConditions s
   -- Its listing is refused by these, then by 7 to 9 of its strings, and by 10 last.
   pub listings : (s out : List ℕ) → ListingConditions s out
-  -- A refusal leaves the caller with its builder and every borrowed buffer as they were; for 11 the builder, by `bases`.
+  -- A part of a file that is being written is refused by 13, then by 1 to 4, and by 12 last; the finish by 13 alone.
+  pub parts : (w : Writer) (kind : PartKind) (part file : List ℕ) → PartConditions w kind part file
+  pub finishes : (w : Writer) → FinishConditions w
+  -- A refusal leaves the caller with its builder, a writer and every borrowed buffer as they were; for 11 the builder, by `bases`.
   pub unchanged : (r : Refusal) → Unchanged r

@@ -17,6 +17,8 @@ use Rattle.umi_groups.specs.Found.{Found}
 use Rattle.umi_groups.specs.Found.{bufferAfter}
 use Rattle.simple_consensus.specs.Answers.{callerAfter}
 use Rattle.column_file.specs.Reading.{File, readFile}
+use Rattle.column_writer.specs.declared.writer.Writer.{Writer}
+use Rattle.column_writer.specs.Writing.{writerAfter, fileAfter}
 use Rattle.column_listing.specs.Listing.{listingOf}
 use Rattle.column_listing.specs.Answers.{listedIn, listingBuffer}
 
@@ -60,5 +62,8 @@ pub record Unchanged (r : Refusal) : Type 0 where
   pub buffer : (out : List ℕ) (said : Result Found) → said ≡ refused r → bufferAfter out said ≡ out
   -- the buffer for a listing
   pub listing-buffer : (out : List ℕ) (said : Result (List ℕ)) → said ≡ refused r → listingBuffer out said ≡ out
+  -- a writer, and the buffer of its file
+  pub writer : (w : Writer) (said : Result Writer) → said ≡ refused r → writerAfter w said ≡ w
+  pub file : (w : Writer) (part file : List ℕ) (said : Result Writer) → said ≡ refused r → fileAfter w part file said ≡ file
   -- the places of a set's strings
   pub places : (ps : List ℕ) (said : Result (List (List ℕ))) → said ≡ refused r → placesAfter said ps ≡ ps

@@ -7,3 +7,4 @@ mod history_functions;
 mod phred_functions;
 mod table_functions;
 mod umi_functions;
+mod writer_functions;

@@ -1,0 +1,4 @@
+pub mod Coded
+pub mod Replied
+pub mod Back
+pub mod NumberLaws
