@@ -1,7 +1,7 @@
 /* consensus.h: the functions of libconsensus, for C99 and C++.
  *
  * Every function is proved to meet the contract above it (docs/PROOFS.md, 'What C and Rust link'). It returns for every argument,
- * reads only its inputs, writes only into OUT, keeps nothing between calls and takes no lock, so any number of threads may call
+ * reads only its inputs, writes only into OUT or FILE, keeps nothing between calls and takes no lock, so any number of threads may call
  * it. The caller must ensure, without any check here, that
  *
  *   - a pointer points to at least LENGTH elements; where LENGTH is 0 it may be any pointer except NULL;
@@ -34,13 +34,15 @@ enum consensus_refusal {
     CONSENSUS_UNLIKE_FIRST = 8,      /* a non-DNA byte that differs from the first string's */
     CONSENSUS_MIXED = 9,             /* DNA and non-DNA in one column */
     CONSENSUS_BUFFER_TOO_SHORT = 10,
-    CONSENSUS_FULL_BUILDER = 11      /* a base, where 4,294,967,295 are already counted */
+    CONSENSUS_FULL_BUILDER = 11,     /* a base, where 4,294,967,295 are already counted */
+    CONSENSUS_NO_ROOM_FOR_PART = 12, /* a part of a file that is written, where the buffer ends before it */
+    CONSENSUS_OUT_OF_TURN = 13       /* a step of writing out of turn, or by a number that is no writer's */
 };
 
 /* The tie rules, as files and scripts write them. */
 enum consensus_tie_rule { CONSENSUS_FGBIO_COMPAT = 0, CONSENSUS_ULP_RELATIVE = 1 };
 
-/* For a reply that is the number of a refusal, below 256, or 256 + a length. */
+/* For a reply that is the number of a refusal, below 256, or else a writer or 256 + a length. */
 #define CONSENSUS_IS_REFUSED(reply) ((reply) < 256)
 #define CONSENSUS_LENGTH(reply) ((reply) - 256)
 
@@ -64,6 +66,39 @@ uint64_t consensus_list(const uint8_t *file, size_t file_length, uint8_t *out, s
 #define CONSENSUS_RECORD 28
 #define CONSENSUS_RECORDS_ROOM (28 * 32764)
 uint64_t consensus_records(const uint8_t *file, size_t file_length, uint8_t *out, size_t out_length);
+
+/* ---- column files written by parts ------------------------------------------------------------------------------------- */
+
+/* A buffer of this size holds every column file. */
+#define CONSENSUS_LONGEST_FILE 65536
+
+/* A file is written by steps: the settings with the number of columns that are to come, that many columns, the string set, a
+ * finish. The writer is a number that the caller keeps and does not take apart: consensus_writer() is a new one. Each step gets
+ * the number and the buffer FILE as the step before left them. Its reply is below 256 the number of the refusal, and the caller
+ * keeps the number that it had; else it is the writer afterwards. A refused step changes nothing, and may be tried again with
+ * another part or in a larger buffer that begins with the same bytes; an accepted one changes only its part's bytes in FILE, behind
+ * those already written.
+ *
+ * Refused, in this order: 13 where it is not the step's turn, or the number is no writer's; 1 where the bytes already written and
+ * the part's are more than 65,536; 2 where the part's bytes are no such part, or more than one; 3 for other than three settings or
+ * a tie rule above 1; 4 for a quality of 255; 12 where FILE ends before the part does. Strings are not tested by 7 to 9. */
+uint64_t consensus_writer(void);
+
+/* PART: the count byte 3, pre-UMI rate, post-UMI rate and tie rule, and the number of columns in two bytes. */
+uint64_t consensus_write_settings(uint64_t writer, const uint8_t *part, size_t part_length, uint8_t *file, size_t file_length);
+
+/* PART: the number of observations in two bytes, and then base and quality of each. */
+uint64_t consensus_write_column(uint64_t writer, const uint8_t *part, size_t part_length, uint8_t *file, size_t file_length);
+
+/* PART: a string set, a count byte and each string after its length byte. */
+uint64_t consensus_write_strings(uint64_t writer, const uint8_t *part, size_t part_length, uint8_t *file, size_t file_length);
+
+/* After the string set: FILE then begins with a whole column file, which consensus_list and the others read as the settings,
+ * columns and strings of the accepted steps. */
+uint64_t consensus_write_finish(uint64_t writer);
+
+/* How many bytes of FILE are written, after the finish the file's length; 0 for a number that is no writer's. */
+uint64_t consensus_written(uint64_t writer);
 
 /* ---- expected errors --------------------------------------------------------------------------------------------------- */
 

@@ -33,6 +33,25 @@ static void files(void) {
     HOLD(consensus_calls(file, sizeof file, 2) == 2 * (uint64_t)(out[0] + out[1]));
 }
 
+/* The same file, written by its parts: the settings (6 bytes), the column (6) and the strings (7). */
+static void writers(void) {
+    uint64_t writer = consensus_writer(), settings, column, set, finish;
+    HOLD(!CONSENSUS_IS_REFUSED(writer) && consensus_written(writer) == 0 && consensus_written(13) == 0);
+    memset(out, 7, 32);
+    HOLD(consensus_write_column(writer, file + 6, 6, out, 32) == CONSENSUS_OUT_OF_TURN);
+    HOLD(consensus_write_settings(writer, file, 6, out, 5) == CONSENSUS_NO_ROOM_FOR_PART && out[0] == 7);
+    settings = consensus_write_settings(writer, file, 6, out, 32);
+    HOLD(!CONSENSUS_IS_REFUSED(settings) && consensus_written(settings) == 6);
+    HOLD(consensus_write_column(settings, file + 6, 5, out, 32) == CONSENSUS_CUT_OFF && out[6] == 7);
+    column = consensus_write_column(settings, file + 6, 6, out, 32);
+    set = consensus_write_strings(column, file + 12, 7, out, 32);
+    HOLD(consensus_write_finish(column) == CONSENSUS_OUT_OF_TURN);
+    finish = consensus_write_finish(set);
+    HOLD(!CONSENSUS_IS_REFUSED(finish) && consensus_written(finish) == sizeof file);
+    HOLD(memcmp(out, file, sizeof file) == 0 && out[sizeof file] == 7);
+    HOLD(consensus_write_finish(finish) == CONSENSUS_OUT_OF_TURN && consensus_write_finish(0) == CONSENSUS_OUT_OF_TURN);
+}
+
 static void errors(void) {
     HOLD(consensus_error_entry(0) == CONSENSUS_ERROR_ONE && consensus_error_entry(94) == 112057 && consensus_error_entry(255) == 0);
     HOLD(consensus_error_sum(file + 8, 4) == 2 * consensus_error_entry(30) && consensus_error_sum(file + 8, 3) == 281474976710);
@@ -77,6 +96,7 @@ static void numbers(void) {
 
 int main(void) {
     files();
+    writers();
     errors();
     umis();
     builders();

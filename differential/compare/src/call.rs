@@ -1,5 +1,7 @@
 //! A call of ours that writes into a buffer, beside what it is to reply and to leave there.
 
+use std::ops::Range;
+
 use crate::hexadecimal::digits;
 use crate::tally::Row;
 
@@ -49,8 +51,8 @@ pub struct Outcome {
 impl Outcome {
     /// Of a call with so much room.
     fn of(room: usize, call: impl FnOnce(&mut [u8]) -> u64) -> Self {
-        let mut bytes: Vec<u8> = (0..room + 2 * GUARD).map(untouched).collect();
-        Self { reply: call(&mut bytes[GUARD..GUARD + room]), bytes }
+        let (mut bytes, place) = buffer(room);
+        Self { reply: call(&mut bytes[place]), bytes }
     }
 
     /// How this one differs from what is demanded.
@@ -68,6 +70,11 @@ impl Outcome {
             )
         })
     }
+}
+
+/// A buffer of so many bytes before a call, with those beside it, and where it is among them.
+pub fn buffer(room: usize) -> (Vec<u8>, Range<usize>) {
+    ((0..room + 2 * GUARD).map(untouched).collect(), GUARD..GUARD + room)
 }
 
 /// A byte of a buffer or beside it before a call: unlike its neighbours, and no letter.

@@ -68,4 +68,11 @@ exported! {
     error_entry(quality: u8) -> u64;
     error_sum() [observations: u8] -> u64;
     error_sums() [file: u8] to out -> u64;
+
+    writer() -> u64;
+    write_settings(writer: u64) [part: u8] to file -> u64;
+    write_column(writer: u64) [part: u8] to file -> u64;
+    write_strings(writer: u64) [part: u8] to file -> u64;
+    write_finish(writer: u64) -> u64;
+    written(writer: u64) -> u64;
 }

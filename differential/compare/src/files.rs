@@ -8,7 +8,7 @@ mod large;
 pub mod listing;
 
 use self::drawn::{KINDS, filling, usual};
-use self::file::{ABSENT_QUALITY, Made};
+use self::file::{ABSENT_QUALITY, Made, read};
 use self::fixed::{SAMPLE, refused};
 use self::listing::{FUNCTIONS, Found, Function, Listed, found_in, observe};
 use crate::builder::{RULES, Settings, TYPICAL};
@@ -21,13 +21,14 @@ use crate::panics;
 use crate::random::Random;
 use crate::tally::{Row, examples, print_table, verdict};
 use crate::umis::set::LONGEST;
+use crate::writers;
 
 /// What is printed of a row: how many files were to be listed or refused.
 const HEAD: &str = "files | how many | calls: list | listed | 1 | 2 | 3 | 4 | 7 | 8 | 9 | \
                     too short: list, too short | differ";
 
 /// What is printed of all.
-const TOLD: [&str; 4] = [
+const TOLD: [&str; 5] = [
     "files: {columns} columns listed, {columns called N} of them called N, {empty columns} of them \
      empty, {columns with others} with bytes that are no base, {columns by the rule} called otherwise \
      under the other rule; at most {most columns} in a file, of {most observations} observations at \
@@ -40,6 +41,8 @@ const TOLD: [&str; 4] = [
      column} of them of no column, {sums of refused strings} of files whose strings the listing \
      refuses, {sums refused} refused by 1 to 4, {sums too short} in too short a buffer; differences \
      are counted above",
+    "files: {written again} of these files, all that reading accepts, written again by their parts; \
+     differences are counted above",
 ];
 
 /// What must have been demanded: without it the files do not show what they are to show.
@@ -47,7 +50,8 @@ const DEMANDED: &str = "1 | 2 | 3 | 4 | 7 | 8 | 9 | a column called N | a column
                         empty columns | columns with others | columns by the rule | the flag | \
                         no flag | an empty string | a byte of 128 or more | FgbioCompat | \
                         UlpRelative | each rate on either side | sums written | sums refused | \
-                        sums too short | sums of no column | sums of refused strings";
+                        sums too short | sums of no column | sums of refused strings | \
+                        written again";
 
 /// What the rates decide: an observation alone, an agreement of two and a dispute, and one at which a
 /// post rate of 0 makes a lane infinite.
@@ -198,6 +202,7 @@ impl Row {
         if found > 0 || self.counts.of("listed") % SHORT_ONE_IN == 0 {
             self.compare_asked_file(&asked, needed - 1);
         }
+        self.compare_rewritten(&made.bytes);
         self.compare_error_sums(&asked, |needed| {
             vec![
                 needed.saturating_sub(1),
@@ -233,6 +238,19 @@ impl Row {
             let name = || "consensus_error_sums".to_owned();
             let call = Call { name: &name, ours: &exports::error_sums, input: asked.file, room };
             self.compare(&call, &answer);
+        }
+    }
+
+    /// What was read of a file is written again as the same bytes, whatever its strings.
+    fn compare_rewritten(&mut self, bytes: &[u8]) {
+        let Ok(file) = read(bytes) else {
+            return;
+        };
+        self.counts.one("written again");
+        match writers::rewritten(&file, bytes.len()) {
+            Ok(again) if again == bytes => (),
+            Ok(_) => self.file_differs(bytes, "it is written again with other bytes"),
+            Err(problem) => self.file_differs(bytes, &format!("written again, {problem}")),
         }
     }
 

@@ -24,6 +24,7 @@ mod tables;
 mod tally;
 mod umis;
 mod vectors;
+mod writers;
 
 const USAGE: &str = "\
 usage: compare elementary [--arguments N] [--seed N]   the four elementary functions, bit for bit
@@ -34,6 +35,7 @@ usage: compare elementary [--arguments N] [--seed N]   the four elementary funct
        compare umis [--sets N] [--seed N]              the functions of simple_umi.rs, bit for bit
        compare files [--files N] [--seed N]            the listings of column files, byte for byte
        compare errors [--sums N] [--seed N]            error probabilities of qualities, and their sums
+       compare writers [--files N] [--seed N]          column files written by parts, beside a model
        compare soak [--minutes N] [--seed N]           what these four draw, round after round
        compare history PRE POST RULE SCRIPT [STATE]    one history again, field by field
        compare vectors FILE [--seed N]                 write the stored list of the Rust's answers
@@ -96,6 +98,7 @@ impl Request {
             ["umis"] => Ok(umis::run(sets, seed)),
             ["files"] => Ok(files::run(files, seed)),
             ["errors"] => Ok(errors::run(sums, seed)),
+            ["writers"] => Ok(writers::run(files, seed)),
             ["soak"] => soak::run(minutes, seed),
             ["history", ref words @ ..] => Ok(history::run(words)?),
             ["vectors", file] => vectors::write(file.as_ref(), seed),

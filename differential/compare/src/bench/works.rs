@@ -21,7 +21,7 @@ use crate::builder::{BASES, Settings, TYPICAL};
 use crate::errors::ENTRIES;
 use crate::exports;
 use crate::files::drawn::{column, filling};
-use crate::files::file::{Parts, read};
+use crate::files::file::{ABSENT, Parts, read, word};
 use crate::files::fixed::SAMPLE;
 use crate::files::listing::{lines, write};
 use crate::histories::columns::Column;
@@ -30,6 +30,8 @@ use crate::tables;
 use crate::umis::families::{FULL, Shape, family};
 use crate::umis::rust::texts;
 use crate::umis::set::{Function, LONGEST, read as read_set, written};
+use crate::writers::model::{Kind, Step, steps_of};
+use crate::writers::parts_of;
 
 /// How many events a run of columns goes through, about.
 pub const EVENTS: usize = 1_000_000;
@@ -282,6 +284,7 @@ pub fn files(seed: u64) -> Result<Vec<Timed>, String> {
             .timed(["add, call", &apart, "a file"], 1)?,
         listing(&small, &SAMPLE, None)?,
         error_sums(&format!("64 KB, {} columns", columns.len()), &large)?,
+        writing(&format!("64 KB, {} columns", columns.len()), &large)?,
     ])
 }
 
@@ -309,6 +312,53 @@ fn sum_errors(file: &[u8], text: &mut Vec<u8>) {
         let sum: u64 = column.chunks_exact(2).map(|pair| entries[usize::from(pair[1])]).sum();
         writeln!(text, "{sum}").expect("memory takes what is written");
     }
+}
+
+/// A file written by its parts. The Rust has no writer: its side judges and copies each part as one would
+/// write that there.
+fn writing(arguments: &str, file: &[u8]) -> Result<Timed, String> {
+    let steps = steps_of(&parts_of(&read(file).expect("a sound file")));
+    let (mut one, mut other) = (vec![0; file.len()], vec![0; file.len()]);
+    if write_parts(&steps, &mut one) != Some(file.len()) || one != file {
+        return Err("writing: another file".to_owned());
+    }
+    if write_by_numbers(&steps, &mut other) != file.len() as u64 || other != file {
+        return Err("writing: ours is another file".to_owned());
+    }
+    let same = steps.clone();
+    let run = sides(
+        move || write_parts(black_box(&same), black_box(&mut one)),
+        move || write_by_numbers(black_box(&steps), black_box(&mut other)),
+    );
+    Ok(timed(["writing a file", arguments, "a file"], 1, run, None))
+}
+
+fn write_by_numbers(steps: &[Step], file: &mut [u8]) -> u64 {
+    let mut writer = exports::writer();
+    for step in steps {
+        writer = step.ours(writer, file);
+    }
+    exports::written(writer)
+}
+
+fn write_parts(steps: &[Step], file: &mut [u8]) -> Option<usize> {
+    let mut end = 0;
+    for Step { kind, part } in steps {
+        let sound = match kind {
+            Kind::Column => word(part).is_some_and(|(depth, rest)| {
+                rest.len() == 2 * depth && rest.chunks_exact(2).all(|pair| pair[1] != ABSENT)
+            }),
+            Kind::Strings => read_set(part).is_some(),
+            Kind::Settings => matches!(part[..], [3, _, _, 0 | 1, _, _]),
+            Kind::Finish => part.is_empty(),
+        };
+        if !sound || end + part.len() > LONGEST {
+            return None;
+        }
+        file.get_mut(end..end + part.len())?.copy_from_slice(part);
+        end += part.len();
+    }
+    Some(end)
 }
 
 /// A file to text. Both write into a buffer that they are lent again and again; ours has room for the

@@ -111,14 +111,14 @@ fn with_any_columns(random: &mut Random) -> Parts {
 }
 
 /// Strings as the UMI sets have them: as many and as long as there may be, accepted and refused.
-fn with_any_strings(random: &mut Random) -> Parts {
+pub fn with_any_strings(random: &mut Random) -> Parts {
     let strings = any_kind(shape, random);
     let columns = columns(random.below(3), |_| 3, random);
     Parts::new(settings(random), columns, strings)
 }
 
 /// Columns and strings that there are none of, or that are empty, or some that are.
-fn with_empty_parts(random: &mut Random) -> Parts {
+pub fn with_empty_parts(random: &mut Random) -> Parts {
     let many = |random: &mut Random| random.one_of(&[0, 0, 1, 2, 5]);
     let columns = columns(many(random), |random| random.one_of(&[0, 0, 0, 2]), random);
     let some: [&[u8]; 4] = [b"", b"", b"", b"A"];

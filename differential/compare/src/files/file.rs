@@ -156,7 +156,7 @@ fn sections(file: &[u8]) -> Option<Sections<'_>> {
 }
 
 /// A count of two bytes, low byte first, and what is after it.
-fn word(bytes: &[u8]) -> Option<(usize, &[u8])> {
+pub fn word(bytes: &[u8]) -> Option<(usize, &[u8])> {
     let (low_high, rest) = bytes.split_first_chunk()?;
     Some((usize::from(u16::from_le_bytes(*low_high)), rest))
 }
