@@ -45,7 +45,11 @@ static size_t column_of(const char *words, uint8_t *part) {
 /* The lines of standard input; the file announces how many columns there are before the first. */
 static size_t read_columns(void) {
     size_t many = 0;
-    while (many < COLUMNS && fgets(line, sizeof line, stdin)) {
+    while (fgets(line, sizeof line, stdin)) {
+        if (many == COLUMNS) {
+            fprintf(stderr, "write: a file has room for at most %d columns\n", COLUMNS);
+            exit(2);
+        }
         line[strcspn(line, "\n")] = 0;
         columns[many] = (char *)malloc(strlen(line) + 1);
         if (!columns[many])

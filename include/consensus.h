@@ -75,9 +75,9 @@ uint64_t consensus_records(const uint8_t *file, size_t file_length, uint8_t *out
 /* A file is written by steps: the settings with the number of columns that are to come, that many columns, the string set, a
  * finish. The writer is a number that the caller keeps and does not take apart: consensus_writer() is a new one. Each step gets
  * the number and the buffer FILE as the step before left them. Its reply is below 256 the number of the refusal, and the caller
- * keeps the number that it had; else it is the writer afterwards. A refused step changes nothing, and may be tried again with
- * another part or in a larger buffer that begins with the same bytes; an accepted one changes only its part's bytes in FILE, behind
- * those already written.
+ * keeps the number that it had; else it is the writer afterwards. A refusal leaves FILE as it was, and the step may be tried again
+ * with another part, or in a larger buffer that begins with the same bytes. Otherwise PART is put behind the bytes already written,
+ * and no other byte of FILE changes.
  *
  * Refused, in this order: 13 where it is not the step's turn, or the number is no writer's; 1 where the bytes already written and
  * the part's are more than 65,536; 2 where the part's bytes are no such part, or more than one; 3 for other than three settings or

@@ -30,8 +30,8 @@ pub enum StepAnswer {
     Accepted,
 }
 
-// The writer after a step, and what the step answers. A step that is refused changes neither the writer
-// nor the buffer.
+// The writer after a step, and what the step answers. A refusal leaves the writer and the buffer as they
+// were.
 pub struct Stepped {
     pub writer: Writer,
     pub answer: StepAnswer,

@@ -50,8 +50,8 @@ pub record WriterLaws : Type 0 where
       → draftAfter es out .writer .stage ≡ Finished → IsFile es out (draftAfter es out)
   -- every file that is read is written again, where there is room
   pub rewrites : (s : List ℕ) → every isByte s ≡ true → (f : File) → readFile s ≡ accepted f → (out : List ℕ) → length s ≤ length out → Rewritten s f out
-  -- a step that is refused changes neither the writer nor the buffer
+  -- a refusal leaves the draft as it was
   pub refused-nothing : (e : Step) (d : Draft) (r : Refusal) → saidOf e d ≡ refused r → step e d ≡ d
-  -- one that is accepted changes only its part's bytes in the buffer, behind those already written
+  -- else the part's bytes stand behind those already written, and no other byte of the buffer is another
   pub only-its-part : (e : Step) (d : Draft) (w : Writer) → saidOf e d ≡ accepted w
       → (w .written ≡ d .writer .written + length (partOf e)) × OnlyPart (d .writer .written) (partOf e) (d .file) (step e d .file)
