@@ -231,11 +231,11 @@ sections-kind = record { back = back; off = off }
 
 -- ---- what three settings say
 
-rule-back : (t : TieRule) → (leb (ruleNumber t) 1 ≡ true) × (ruleOf (ruleNumber t) ≡ t)
+pub rule-back : (t : TieRule) → (leb (ruleNumber t) 1 ≡ true) × (ruleOf (ruleNumber t) ≡ t)
 rule-back FgbioCompat = (refl, refl)
 rule-back UlpRelative = (refl, refl)
 
-number-back : (n : ℕ) → n ≤ 1 → ruleNumber (ruleOf n) ≡ n
+pub number-back : (n : ℕ) → n ≤ 1 → ruleNumber (ruleOf n) ≡ n
 number-back zero h = refl
 number-back (suc n) h =
     let e : n ≡ 0 = omega arith in

@@ -25,14 +25,21 @@ use Rattle.column_writer.specs.declared.writer.StepAnswer.the-variants.{
 use Rattle.column_writer.specs.Stages.{inTurn, awaitsFinish, nextStage, nextOf}
 use Rattle.column_writer.specs.Writing.{roomForPart, putIn, finishOf, fileAfter, stepNumber, steppedBy}
 
--- a test that was asked, and what its negation says of it
+-- what the negation of a test says of it
+pub denied : (b : Bool) → not b ≡ true → b ≡ false
+denied true h = clash refl h
+denied false h = refl
+
+pub granted : (b : Bool) → not b ≡ false → b ≡ true
+granted true h = refl
+granted false h = clash h refl
+
+-- of one that was asked
 pub it-fails : (b t : Bool) → b ≡ t → not b ≡ true → t ≡ false
-it-fails true t e h = clash refl h
-it-fails false t e h = sym e
+it-fails b t e h = sym e ∙ denied b h
 
 pub it-holds : (b t : Bool) → b ≡ t → not b ≡ false → t ≡ true
-it-holds true t e h = sym e
-it-holds false t e h = clash h refl
+it-holds b t e h = sym e ∙ granted b h
 
 next-refused : (q : Result Stage) (r : Refusal) → next.Refused r ≡ nextOf q → q ≡ refused r
 next-refused (refused s) r e = cc

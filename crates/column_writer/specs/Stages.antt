@@ -46,13 +46,15 @@ oneColumnLess (AwaitsColumns g left) = AwaitsColumns g (left - 1)
 oneColumnLess AwaitsFinish = AwaitsFinish
 oneColumnLess Finished = Finished
 
+-- so after a column
 unfoldable pub afterColumn : Stage → List ℕ → Result Stage
 afterColumn stage part = andThen (readColumn part) (λ c. accepted (oneColumnLess stage))
 
--- the finish
+-- after the strings the finish
 unfoldable pub afterStrings : List ℕ → Result Stage
 afterStrings part = andThen (readSet part) (λ l. accepted AwaitsFinish)
 
+-- by the kind of part
 abbrev pub nextStage : Stage → PartKind → List ℕ → Result Stage
 nextStage stage settings part = afterSettings part
 nextStage stage column part = afterColumn stage part

@@ -1,7 +1,7 @@
 -- What the accepted steps are at each stage, and one step more. Assumes nothing.
-use mathlib.Core.Path.{_≡_, refl, ap}
+use mathlib.Core.Path.{_≡_, refl}
 use mathlib.Core.Bool.{true}
-use mathlib.Core.List.{List, [], _∷_, _++_, map, append-assoc}
+use mathlib.Core.List.{List, [], _∷_, _++_, map, append-assoc, map-append}
 use Prim.Native.Nat.{ℕ, _+_, _-_, _<_}
 use native.Mathlib.Nat.{zero-add}
 use native.Mathlib.Omega.{arith}
@@ -11,7 +11,7 @@ use Rattle.words.proofs.Cases.{clash}
 use Rattle.words.specs.Lists.{every}
 use Rattle.refusals.specs.declared.Verdict.{Verdict}
 use Rattle.refusals.specs.declared.Verdict.the-variants.{Sound, Refused}
-use Rattle.refusals.specs.Result.{Result, refused, accepted, orElse, firstRefused}
+use Rattle.refusals.specs.Result.{orElse, firstRefused}
 use Rattle.string_set.specs.StringSet.{readSet}
 use Rattle.column_file.specs.declared.settings.Settings.{Settings}
 use Rattle.column_file.specs.Format.{Observation}
@@ -25,7 +25,8 @@ use Rattle.column_writer.specs.declared.stages.Stage.the-variants.{AwaitsSettin
 use Rattle.column_writer.specs.declared.stages.PartKind.{PartKind}
 use Rattle.column_writer.specs.declared.stages.PartKind.the-variants.{Settings as settings, Column as column, Strings as strings}
 use Rattle.column_writer.specs.Stages.{inTurn, awaitsFinish, afterSettings, afterColumn, afterStrings, nextStage}
-use Rattle.column_writer_laws.specs.Steps.{Step, put, finish, columnStep, stepsOf}
+use Rattle.column_writer_laws.specs.Steps.{Step, put, finish, columnStep, fileSteps}
+use Rattle.column_writer_laws.proofs.Drafts.{read-part}
 
 -- ---- columns without a faulty one
 
@@ -54,17 +55,8 @@ begun g n cs = put settings (announcedBytes g n) ∷ map columnStep cs
 abbrev pub Shape : Stage → List Step → Type 0
 Shape AwaitsSettings es = es ≡ []
 Shape (AwaitsColumns g left) es = (cs : List (List Observation)) × (es ≡ begun g (length cs + left) cs) × (columnsVerdict cs ≡ Sound)
-Shape AwaitsFinish es = (f : File) × (es ++ (finish ∷ []) ≡ stepsOf f) × (columnsVerdict (f .columns) ≡ Sound)
-Shape Finished es = (f : File) × (es ≡ stepsOf f) × (columnsVerdict (f .columns) ≡ Sound)
-
-map-more : (cs : List (List Observation)) (c : List Observation) → map columnStep (cs ++ (c ∷ [])) ≡ map columnStep cs ++ (columnStep c ∷ [])
-map-more [] c = refl
-map-more (d ∷ cs) c = rw (map-more cs c)
-
--- what is accepted of a part's bytes
-pub read-part : {A : Type 0} (P : A → Type 0) (q : Result A) → ((a : A) → q ≡ accepted a → P a) → Accepting P q
-read-part P (refused r) h = tt
-read-part P (accepted a) h = h a refl
+Shape AwaitsFinish es = (f : File) × (es ++ (finish ∷ []) ≡ fileSteps f) × (columnsVerdict (f .columns) ≡ Sound)
+Shape Finished es = (f : File) × (es ≡ fileSteps f) × (columnsVerdict (f .columns) ≡ Sound)
 
 module _ (part : List ℕ) (es : List Step) (h : every isByte part ≡ true) where
   -- with one step more
@@ -85,7 +77,7 @@ module _ (part : List ℕ) (es : List Step) (h : every isByte part ≡ true) whe
       (read-part (λ c. (columnBytes c ≡ part) × (columnVerdict c ≡ Sound)) (readColumn part) (λ c e. parts-both-ways .column .accepted-reads part h c e))
       (λ c e.
       let n : length (s .0 ++ (c ∷ [])) + (left - 1) ≡ length (s .0) + left = omega (arith, length-append (s .0) (c ∷ [])) in
-      (s .0 ++ (c ∷ []), rw (s .1, n, map-more (s .0) c, e .0), columns-more (s .0) c (s .2) (e .1)))
+      (s .0 ++ (c ∷ []), rw (s .1, n, map-append columnStep (s .0) (c ∷ []), e .0), columns-more (s .0) c (s .2) (e .1)))
 
   strings-more : (g : Settings) (left : ℕ) → left ≡ 0 → Shape (AwaitsColumns g left) es → Accepting (More strings) (afterStrings part)
   unfolding afterStrings

@@ -1,6 +1,6 @@
 -- The conditions of a step, each by itself. Assumes nothing.
 use mathlib.Core.Path.{_≡_, refl, subst}
-use mathlib.Core.Bool.{Bool, true, false, not}
+use mathlib.Core.Bool.{true, false}
 use mathlib.Core.List.{List}
 use Prim.Native.Nat.{ℕ, suc, _+_, _≤_, _<_}
 use native.Mathlib.Omega.{arith}
@@ -25,17 +25,13 @@ use Rattle.column_writer.specs.declared.stages.PartKind.the-variants.{Settings 
 use Rattle.column_writer.specs.declared.writer.Writer.{Writer}
 use Rattle.column_writer.specs.Stages.{inTurn, oneColumnLess, afterSettings, afterColumn, afterStrings, nextStage}
 use Rattle.column_writer.specs.Writing.{roomForPart, putIn, finishOf}
-use Rattle.column_writer_laws.specs.Conditions.{Counted, countedSettings, countedColumn, countedStrings, countedOf, areBadSettings, hasAbsent}
-use Rattle.column_writer_laws.specs.Conditions.{PartConditions, FinishConditions, OutOfTurn}
-use Rattle.column_writer_laws.proofs.Drafts.{in-turn}
-
-out-of-turn : (b : Bool) → not b ≡ true → b ≡ false
-out-of-turn true e = clash refl e
-out-of-turn false e = refl
+use Rattle.column_writer.proofs.Said.{denied, granted}
+use Rattle.column_writer_laws.specs.Conditions.{ByCounts, countedSettings, countedColumn, countedStrings, byCounts, areBadSettings, hasAbsent}
+use Rattle.column_writer_laws.specs.Conditions.{PartConditions, FinishConditions, TurnLaws}
 
 -- ---- what the reader says of a part, by what it is by its counts
 
-abbrev By : Result Counted → Result Stage → Type 0
+abbrev By : Result ByCounts → Result Stage → Type 0
 By (refused r) read = read ≡ refused r
 By (accepted p) read =
     (areBadSettings p ≡ true → read ≡ refused BadSettings)
@@ -50,9 +46,9 @@ unfolding settingsOf
 settings-by (refused r) = refl
 settings-by (accepted a) =
     let bs = a .0 in (
-      (λ t. rw (out-of-turn (isSettings bs) t)),
+      (λ t. rw (denied (isSettings bs) t)),
       (λ t e. clash refl e),
-      (λ t e. (AwaitsColumns (settingsAt (byteAt bs 0) (byteAt bs 1) (byteAt bs 2)) (a .1), rw (in-turn (isSettings bs) t))),
+      (λ t e. (AwaitsColumns (settingsAt (byteAt bs 0) (byteAt bs 1) (byteAt bs 2)) (a .1), rw (granted (isSettings bs) t))),
     )
 
 column-by : (stage : Stage) (q : Result (List Observation)) → By (andThen q (λ c. accepted (countedColumn c)))
@@ -64,7 +60,7 @@ strings-by : (q : Result (List (List ℕ))) → By (andThen q (λ l. accepted co
 strings-by (refused r) = refl
 strings-by (accepted l) = ((λ t. clash refl t), (λ t e. clash refl e), (λ t e. (AwaitsFinish, refl)))
 
-part-by : (stage : Stage) (kind : PartKind) (part : List ℕ) → length part ≤ longestFile → By (countedOf kind part) (nextStage stage kind part)
+part-by : (stage : Stage) (kind : PartKind) (part : List ℕ) → length part ≤ longestFile → By (byCounts kind part) (nextStage stage kind part)
 unfolding afterSettings afterColumn afterStrings readSettings readColumn readSet
 part-by stage settings part h = rw (le-ltb longestFile (length part) h) (settings-by (alone (announced part)))
 part-by stage column part h = rw (le-ltb longestFile (length part) h) (column-by stage (alone (oneColumn part)))
@@ -83,16 +79,16 @@ module _ (w : Writer) (kind : PartKind) (part file : List ℕ) where
     one h = rw (turn, lt-ltb longestFile (w .written + length part) h)
 
     module _ (short : w .written + length part ≤ longestFile) where
-      by : By (countedOf kind part) (nextStage (w .stage) kind part)
+      by : By (byCounts kind part) (nextStage (w .stage) kind part)
       by = part-by (w .stage) kind part (omega arith)
 
-      two : countedOf kind part ≡ refused CutOff → numberIn (putIn w kind part file) ≡ 2
+      two : byCounts kind part ≡ refused CutOff → numberIn (putIn w kind part file) ≡ 2
       unfolding putIn
-      two e = rw (turn, le-ltb longestFile (w .written + length part) short, subst (λ (q : Result Counted). By q (nextStage (w .stage) kind part)) e by)
+      two e = rw (turn, le-ltb longestFile (w .written + length part) short, subst (λ (q : Result ByCounts). By q (nextStage (w .stage) kind part)) e by)
 
-      module _ (p : Counted) (e : countedOf kind part ≡ accepted p) where
+      module _ (p : ByCounts) (e : byCounts kind part ≡ accepted p) where
         known : By (accepted p) (nextStage (w .stage) kind part)
-        known = subst (λ (q : Result Counted). By q (nextStage (w .stage) kind part)) e by
+        known = subst (λ (q : Result ByCounts). By q (nextStage (w .stage) kind part)) e by
 
         three : areBadSettings p ≡ true → numberIn (putIn w kind part file) ≡ 3
         unfolding putIn
@@ -129,9 +125,9 @@ pub finish-conditions : (w : Writer) → FinishConditions w
 unfolding finishOf
 finish-conditions w = record { out-of-turn = λ t. rw t; accepted-else = λ t. rw t }
 
-pub out-of-turn-laws : (n : ℕ) (part file : List ℕ) → OutOfTurn n part file
+pub turn-laws : (n : ℕ) (part file : List ℕ) → TurnLaws n part file
 unfolding putIn finishOf
-out-of-turn-laws n part file = record {
+turn-laws n part file = record {
   column-first = refl;
   strings-first = refl;
   settings-again = λ g left. refl;

@@ -1,12 +1,12 @@
 -- A draft of which the first bytes are known, and a part behind them. Assumes nothing.
-use mathlib.Core.Path.{_≡_, refl, sym, _∙_, ap}
-use mathlib.Core.Bool.{Bool, true, false, not}
+use mathlib.Core.Path.{_≡_, refl, _∙_}
+use mathlib.Core.Bool.{true, not}
 use mathlib.Core.List.{List, _++_}
 use Prim.Native.Nat.{ℕ, _+_, _≤_}
 use native.Mathlib.Omega.{arith}
 use borrow.Author.Tests.{le-ltb, le-leb, ltb-false}
 use lib.Dec.{ltb}
-use lib.ListN.{length, take, drop, length-append, length-drop}
+use lib.ListN.{length, drop, length-append, length-drop}
 use lib.Seq.{take-append-seam, drop-append-add, drop-drop}
 use Rattle.words.proofs.Cases.{choice}
 use Rattle.lent_bytes.specs.Buffer.{writtenAt}
@@ -19,7 +19,8 @@ use Rattle.column_writer.specs.declared.stages.PartKind.{PartKind}
 use Rattle.column_writer.specs.Stages.{inTurn}
 use Rattle.column_writer.specs.Stages.{nextStage}
 use Rattle.column_writer.specs.Writing.{roomForPart, putIn}
-use Rattle.column_writer_laws.specs.Steps.{put, Draft, saidOf, step}
+use Rattle.column_writer.proofs.Said.{granted}
+use Rattle.column_writer_laws.specs.Steps.{put, Draft, saidOf, afterStep}
 
 -- the bytes bs are written, in a buffer that held out
 abbrev pub draftAt : Stage → List ℕ → List ℕ → Draft
@@ -51,7 +52,7 @@ module _ (stage next : Stage) (kind : PartKind) (part bs out : List ℕ) (turn :
       let fits : length bs + length part ≤ length (bs ++ drop (length bs) out) = rw (drafted-length bs out (omega arith)) (omega arith) in
       rw (turn, le-ltb longestFile (length bs + length part) within, reads, le-ltb (length (bs ++ drop (length bs) out)) (length bs + length part) fits, size)
 
-  pub put-steps : step (put kind part) (draftAt stage bs out) ≡ draftAt next (bs ++ part) out
+  pub put-steps : afterStep (put kind part) (draftAt stage bs out) ≡ draftAt next (bs ++ part) out
   put-steps = rw (put-said, part-more bs part out room)
 
 -- what is known of a part that is accepted
@@ -62,13 +63,10 @@ pub record Put (w : Writer) (kind : PartKind) (part file : List ℕ) (v : Writer
   pub reads : nextStage (w .stage) kind part ≡ accepted (v .stage)
   pub written : v .written ≡ w .written + length part
 
-accepting-itself : {A : Type 0} (q : Result A) → Accepting (λ a. q ≡ accepted a) q
-accepting-itself (refused r) = tt
-accepting-itself (accepted a) = refl
-
-pub in-turn : (b : Bool) → not b ≡ false → b ≡ true
-in-turn true e = refl
-in-turn false e = sym e
+-- what is known of what is accepted
+pub read-part : {A : Type 0} (P : A → Type 0) (q : Result A) → ((a : A) → q ≡ accepted a → P a) → Accepting P q
+read-part P (refused r) h = tt
+read-part P (accepted a) h = h a refl
 
 pub put-known : (w : Writer) (kind : PartKind) (part file : List ℕ) → Accepting (Put w kind part file) (putIn w kind part file)
 unfolding putIn roomForPart
@@ -76,6 +74,6 @@ put-known w kind part file =
     let end = w .written + length part in
     choice (Accepting (Put w kind part file)) (not (inTurn (w .stage) kind)) _ _ (λ e. tt)
     (λ t. choice (Accepting (Put w kind part file)) (ltb longestFile end) _ _ (λ e. tt)
-    (λ s. further (λ next. nextStage (w .stage) kind part ≡ accepted next) (Put w kind part file) (nextStage (w .stage) kind part) _ (accepting-itself (nextStage (w .stage) kind part))
+    (λ s. further (λ next. nextStage (w .stage) kind part ≡ accepted next) (Put w kind part file) (nextStage (w .stage) kind part) _ (read-part (λ next. nextStage (w .stage) kind part ≡ accepted next) (nextStage (w .stage) kind part) (λ next e. e))
     (λ next n. choice (Accepting (Put w kind part file)) (ltb (length file) end) _ _ (λ e. tt)
-    (λ r. record { turn = in-turn _ t; short = ltb-false longestFile end s; room = ltb-false (length file) end r; reads = n; written = refl }))))
+    (λ r. record { turn = granted _ t; short = ltb-false longestFile end s; room = ltb-false (length file) end r; reads = n; written = refl }))))

@@ -8,10 +8,10 @@ use Rattle.column_file.specs.Format.{observation, column, settings, announced}
 use Rattle.column_file.specs.Reading.{settingsOf, observationVerdict, columnVerdict, readSettings, readColumn}
 use Rattle.column_writer.specs.Stages.{afterSettings, afterColumn, afterStrings}
 use Rattle.column_writer.specs.Writing.{roomForPart, putIn, finishOf}
-use Rattle.column_writer_laws.specs.Examples.{cases, holds, sampleSteps, mixedSteps, sampleWritten, sampleNumbers}
+use Rattle.column_writer_laws.specs.Examples.{cases, caseHolds, sampleSteps, mixedSteps, sampleWritten, sampleNumbers}
 
 -- each case has its number
-pub each-case : T (every holds cases)
+pub each-case : T (every caseHolds cases)
 unfolding byte word front many string stringSet observation column settings announced settingsOf observationVerdict columnVerdict
     readSettings readColumn readSet afterSettings afterColumn afterStrings roomForPart putIn
 each-case = tt

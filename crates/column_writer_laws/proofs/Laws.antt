@@ -26,11 +26,11 @@ use Rattle.column_writer.specs.declared.stages.Stage.{Stage}
 use Rattle.column_writer.specs.declared.stages.Stage.the-variants.{Finished}
 use Rattle.column_writer.specs.declared.stages.PartKind.the-variants.{Settings as settings, Strings as strings}
 use Rattle.column_writer.specs.declared.writer.Writer.{Writer}
-use Rattle.column_writer_laws.specs.Steps.{Step, put, finish, partOf, Draft, newDraft, saidOf, step, run, draftAfter, kept, columnStep, stepsOf}
+use Rattle.column_writer_laws.specs.Steps.{Step, put, finish, partOf, Draft, newDraft, saidOf, afterStep, afterSteps, draftAfter, kept, columnStep, fileSteps}
 use Rattle.column_writer_laws.specs.Laws.{areBytes, IsFile, Rewritten, OnlyPart, WriterLaws}
 use Rattle.column_writer_laws.proofs.Drafts.{draftAt, drafted-length, Put, put-known}
 use Rattle.column_writer_laws.proofs.Accepted.{Shape}
-use Rattle.column_writer_laws.proofs.Held.{finish-known, Held, held}
+use Rattle.column_writer_laws.proofs.LedTo.{finish-known, LedTo, led-to}
 use Rattle.column_writer_laws.proofs.Rewriting.{whole, all-pass}
 
 -- ---- a finished file
@@ -40,7 +40,7 @@ joined-columns [] = refl
 joined-columns (c ∷ cs) = rw (joined-columns cs)
 
 -- the bytes of the steps that write a file are the file's
-joined-steps : (f : File) → joined partOf (stepsOf f) ≡ fileBytes f
+joined-steps : (f : File) → joined partOf (fileSteps f) ≡ fileBytes f
 joined-steps f =
     let a = announcedBytes (f .settings) (length (f .columns)) in
     let j = joined columnBytes (f .columns) in
@@ -48,8 +48,8 @@ joined-steps f =
     rw (joined-append partOf (map columnStep (f .columns)) (put strings s ∷ finish ∷ []), joined-columns (f .columns), append-nil s)
     (sym (append-assoc a j s) ∙ whole [] f)
 
-module _ (es : List Step) (out : List ℕ) (d : Draft) (h : Held out (kept es (newDraft out)) d) (f : File)
-    (steps : kept es (newDraft out) ≡ stepsOf f) (sound : columnsVerdict (f .columns) ≡ Sound) where
+module _ (es : List Step) (out : List ℕ) (d : Draft) (h : LedTo out (kept es (newDraft out)) d) (f : File)
+    (steps : kept es (newDraft out) ≡ fileSteps f) (sound : columnsVerdict (f .columns) ≡ Sound) where
   is-file : IsFile es out d
   is-file =
       let bs = joined partOf (kept es (newDraft out)) in
@@ -64,7 +64,7 @@ module _ (es : List Step) (out : List ℕ) (d : Draft) (h : Held out (kept es (n
 
 finished-reads : (es : List Step) → areBytes es ≡ true → (out : List ℕ) → draftAfter es out .writer .stage ≡ Finished → IsFile es out (draftAfter es out)
 finished-reads es b out t =
-    let h = held out es b in
+    let h = led-to out es b in
     let stage : h .stage ≡ Finished = sym (ap (λ (d : Draft). d .writer .stage) (h .draft)) ∙ t in
     let s = subst (λ (x : Stage). Shape x (kept es (newDraft out))) stage (h .shape) in
     is-file es out (draftAfter es out) h (s .0) (s .1) (s .2)
@@ -75,9 +75,9 @@ rewritten : (s : List ℕ) → every isByte s ≡ true → (f : File) → readFi
 rewritten s b f e out room =
     let i = both-ways .accepted-reads s b f e in
     let p = all-pass out f (i .qualities) (rw (i .bytes) (i .size)) (rw (i .bytes) room) in
-    let none = append-nil (stepsOf f) in
-    let all = subst (λ (l : List Step). kept l (newDraft out) ≡ stepsOf f) none (p .all [] ∙ none) in
-    let to = subst (λ (l : List Step). run l (newDraft out) ≡ draftAt Finished (fileBytes f) out) none (p .to []) ∙ ap (λ (bs : List ℕ). draftAt Finished bs out) (i .bytes) in
+    let none = append-nil (fileSteps f) in
+    let all = subst (λ (l : List Step). kept l (newDraft out) ≡ fileSteps f) none (p .all [] ∙ none) in
+    let to = subst (λ (l : List Step). afterSteps l (newDraft out) ≡ draftAt Finished (fileBytes f) out) none (p .to []) ∙ ap (λ (bs : List ℕ). draftAt Finished bs out) (i .bytes) in
     record {
       all = all;
       stage = ap (λ (d : Draft). d .writer .stage) to;
@@ -112,7 +112,7 @@ nothing-put at before =
     (λ e. refl)
 
 only-its-part : (e : Step) (d : Draft) (w : Writer) → saidOf e d ≡ accepted w
-    → (w .written ≡ d .writer .written + length (partOf e)) × OnlyPart (d .writer .written) (partOf e) (d .file) (step e d .file)
+    → (w .written ≡ d .writer .written + length (partOf e)) × OnlyPart (d .writer .written) (partOf e) (d .file) (afterStep e d .file)
 only-its-part (put kind part) d w q =
     let k : Put (d .writer) kind part (d .file) w = subst (Accepting (Put (d .writer) kind part (d .file))) q (put-known (d .writer) kind part (d .file)) in
     (k .written, rw q (only-part (d .writer .written) part (d .file) (k .room)))
@@ -123,7 +123,7 @@ only-its-part finish d w q =
       rw (q, nothing-put at (d .file)) (record { as-long = refl; front = refl; there = refl; beyond = refl }),
     )
 
-refused-nothing : (e : Step) (d : Draft) (r : Refusal) → saidOf e d ≡ refused r → step e d ≡ d
+refused-nothing : (e : Step) (d : Draft) (r : Refusal) → saidOf e d ≡ refused r → afterStep e d ≡ d
 refused-nothing e d r q = rw q
 
 pub writer-laws : WriterLaws

@@ -1,6 +1,6 @@
 pub mod Drafts
 pub mod Accepted
-pub mod Held
+pub mod LedTo
 pub mod Rewriting
 pub mod Laws
 pub mod ConditionLaws

@@ -22,22 +22,22 @@ use Rattle.column_writer.specs.declared.stages.PartKind.the-variants.{Settings 
 use Rattle.column_writer.specs.declared.writer.Writer.{Writer}
 use Rattle.column_writer.specs.Stages.{inTurn, afterSettings, afterColumn, afterStrings, nextStage}
 use Rattle.column_writer.specs.Writing.{finishOf}
-use Rattle.column_writer_laws.specs.Steps.{Step, put, finish, Draft, newDraft, saidOf, step, run, keptBy, kept, columnStep, stepsOf}
+use Rattle.column_writer_laws.specs.Steps.{Step, put, finish, Draft, newDraft, saidOf, afterStep, afterSteps, keptBy, kept, columnStep, fileSteps}
 use Rattle.column_writer_laws.proofs.Drafts.{draftAt, part-more, put-said, put-steps}
 use Rattle.column_writer_laws.proofs.Accepted.{or-sound}
 
 -- steps that are all accepted lead from one draft to another, whatever comes after them
 pub record Passes (steps : List Step) (d e : Draft) : Type 0 where
   pub all : (rest : List Step) → kept (steps ++ rest) d ≡ steps ++ kept rest e
-  pub to : (rest : List Step) → run (steps ++ rest) d ≡ run rest e
+  pub to : (rest : List Step) → afterSteps (steps ++ rest) d ≡ afterSteps rest e
 
 kept-first : (s : Step) (q : Result Writer) (l : List Step) (v : Writer) → q ≡ accepted v → keptBy s q l ≡ s ∷ l
 kept-first s q l v e = rw e
 
-one-passes : (s : Step) (d e : Draft) (v : Writer) → saidOf s d ≡ accepted v → step s d ≡ e → Passes (s ∷ []) d e
+one-passes : (s : Step) (d e : Draft) (v : Writer) → saidOf s d ≡ accepted v → afterStep s d ≡ e → Passes (s ∷ []) d e
 one-passes s d e v q t = record {
-  all = λ rest. kept-first s (saidOf s d) (kept rest (step s d)) v q ∙ ap (λ (x : Draft). s ∷ kept rest x) t;
-  to = λ rest. ap (λ (x : Draft). run rest x) t;
+  all = λ rest. kept-first s (saidOf s d) (kept rest (afterStep s d)) v q ∙ ap (λ (x : Draft). s ∷ kept rest x) t;
+  to = λ rest. ap (λ (x : Draft). afterSteps rest x) t;
 }
 
 then-pass : (a b : List Step) (d e f : Draft) → Passes a d e → Passes b e f → Passes (a ++ b) d f
@@ -107,7 +107,7 @@ module _ (out : List ℕ) where
   strings-read g l short = rw (parts-both-ways .strings .never-refused l short refl)
 
   pub all-pass : (f : File) → columnsVerdict (f .columns) ≡ Sound → length (fileBytes f) ≤ longestFile → length (fileBytes f) ≤ length out
-      → Passes (stepsOf f) (newDraft out) (draftAt Finished (fileBytes f) out)
+      → Passes (fileSteps f) (newDraft out) (draftAt Finished (fileBytes f) out)
   all-pass f sound short room =
       let g = f .settings in
       let n = length (f .columns) in

@@ -24,51 +24,54 @@ use Rattle.column_writer.specs.Writing.{putIn, finishOf}
 -- ---- a part
 
 -- what a part is by its counts, up to its last byte: settings, observations, or strings, of which nothing more is asked
-pub data Counted : Type 0 where
-  countedSettings : List ℕ → Counted
-  countedColumn : List Observation → Counted
-  countedStrings : Counted
+pub data ByCounts : Type 0 where
+  countedSettings : List ℕ → ByCounts
+  countedColumn : List Observation → ByCounts
+  countedStrings : ByCounts
 
-abbrev pub countedOf : PartKind → List ℕ → Result Counted
-countedOf settings part = andThen (alone (announced part)) (λ a. accepted (countedSettings (a .0)))
-countedOf column part = andThen (alone (oneColumn part)) (λ c. accepted (countedColumn c))
-countedOf strings part = andThen (alone (stringSet part)) (λ l. accepted countedStrings)
+-- so read, or 2
+abbrev pub byCounts : PartKind → List ℕ → Result ByCounts
+byCounts settings part = andThen (alone (announced part)) (λ a. accepted (countedSettings (a .0)))
+byCounts column part = andThen (alone (oneColumn part)) (λ c. accepted (countedColumn c))
+byCounts strings part = andThen (alone (stringSet part)) (λ l. accepted countedStrings)
 
 -- settings that are not three, or whose rule is above 1
-abbrev pub areBadSettings : Counted → Bool
+abbrev pub areBadSettings : ByCounts → Bool
 areBadSettings (countedSettings bs) = not (isSettings bs)
 areBadSettings (countedColumn c) = false
 areBadSettings countedStrings = false
 
 -- a column with a quality of 255
-abbrev pub hasAbsent : Counted → Bool
+abbrev pub hasAbsent : ByCounts → Bool
 hasAbsent (countedSettings bs) = false
 hasAbsent (countedColumn c) = any isAbsent c
 hasAbsent countedStrings = false
 
+-- a part: what it is refused by, in turn
 pub record PartConditions (w : Writer) (kind : PartKind) (part file : List ℕ) : Type 0 where
   -- 13: it is not the part's turn, whatever its bytes
   pub out-of-turn : inTurn (w .stage) kind ≡ false → numberIn (putIn w kind part file) ≡ 13
   -- 1: else, where the bytes already written and the part's are more than 65,536
   pub too-long : inTurn (w .stage) kind ≡ true → longestFile < w .written + length part → numberIn (putIn w kind part file) ≡ 1
   -- 2: else, where its bytes are no such part up to the last
-  pub cut-off : inTurn (w .stage) kind ≡ true → w .written + length part ≤ longestFile → countedOf kind part ≡ refused CutOff
+  pub cut-off : inTurn (w .stage) kind ≡ true → w .written + length part ≤ longestFile → byCounts kind part ≡ refused CutOff
       → numberIn (putIn w kind part file) ≡ 2
   -- 3: else, where the settings are not three or the rule is above 1
-  pub bad-settings : inTurn (w .stage) kind ≡ true → w .written + length part ≤ longestFile → (p : Counted) → countedOf kind part ≡ accepted p
+  pub bad-settings : inTurn (w .stage) kind ≡ true → w .written + length part ≤ longestFile → (p : ByCounts) → byCounts kind part ≡ accepted p
       → areBadSettings p ≡ true → numberIn (putIn w kind part file) ≡ 3
   -- 4: else, where a quality is 255
-  pub absent-quality : inTurn (w .stage) kind ≡ true → w .written + length part ≤ longestFile → (p : Counted) → countedOf kind part ≡ accepted p
+  pub absent-quality : inTurn (w .stage) kind ≡ true → w .written + length part ≤ longestFile → (p : ByCounts) → byCounts kind part ≡ accepted p
       → areBadSettings p ≡ false → hasAbsent p ≡ true → numberIn (putIn w kind part file) ≡ 4
   -- 12: else, where the buffer ends before the part does
-  pub no-room : inTurn (w .stage) kind ≡ true → w .written + length part ≤ longestFile → (p : Counted) → countedOf kind part ≡ accepted p
+  pub no-room : inTurn (w .stage) kind ≡ true → w .written + length part ≤ longestFile → (p : ByCounts) → byCounts kind part ≡ accepted p
       → areBadSettings p ≡ false → hasAbsent p ≡ false → length file < w .written + length part → numberIn (putIn w kind part file) ≡ 12
   -- and none else
-  pub accepted-else : inTurn (w .stage) kind ≡ true → w .written + length part ≤ longestFile → (p : Counted) → countedOf kind part ≡ accepted p
+  pub accepted-else : inTurn (w .stage) kind ≡ true → w .written + length part ≤ longestFile → (p : ByCounts) → byCounts kind part ≡ accepted p
       → areBadSettings p ≡ false → hasAbsent p ≡ false → w .written + length part ≤ length file → numberIn (putIn w kind part file) ≡ 0
 
 -- ---- the finish
 
+-- the finish likewise
 pub record FinishConditions (w : Writer) : Type 0 where
   -- 13: not directly after the string set
   pub out-of-turn : awaitsFinish (w .stage) ≡ false → numberIn (finishOf w) ≡ 13
@@ -81,7 +84,8 @@ pub record FinishConditions (w : Writer) : Type 0 where
 abbrev pub writerAt : Stage → ℕ → Writer
 writerAt stage n = record { stage = stage; written = n }
 
-pub record OutOfTurn (n : ℕ) (part file : List ℕ) : Type 0 where
+-- each way to be out of turn
+pub record TurnLaws (n : ℕ) (part file : List ℕ) : Type 0 where
   -- before the settings neither a column nor the strings
   pub column-first : numberIn (putIn (writerAt AwaitsSettings n) column part file) ≡ 13
   pub strings-first : numberIn (putIn (writerAt AwaitsSettings n) strings part file) ≡ 13

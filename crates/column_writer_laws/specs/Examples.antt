@@ -12,29 +12,33 @@ use Rattle.column_writer.specs.declared.stages.Stage.the-variants.{AwaitsSettin
 use Rattle.column_writer.specs.declared.stages.PartKind.{PartKind}
 use Rattle.column_writer.specs.declared.stages.PartKind.the-variants.{Settings as settings, Column as column, Strings as strings}
 use Rattle.column_writer.specs.Writing.{putIn}
-use Rattle.column_writer_laws.specs.Steps.{Step, put, finish, Draft, newDraft, saidOf, step, draftAfter}
+use Rattle.column_writer_laws.specs.Steps.{Step, put, finish, Draft, newDraft, saidOf, afterStep, draftAfter}
 use Rattle.column_writer_laws.specs.Conditions.{writerAt}
 
 -- ---- steps from a new writer, and the number of each
 
-abbrev pub numbersOf : List Step → Draft → List ℕ
-numbersOf [] d = []
-numbersOf (e ∷ es) d = numberIn (saidOf e d) ∷ numbersOf es (step e d)
+-- 0 where a step is accepted
+abbrev pub stepNumbers : List Step → Draft → List ℕ
+stepNumbers [] d = []
+stepNumbers (e ∷ es) d = numberIn (saidOf e d) ∷ stepNumbers es (afterStep e d)
 
--- two columns announced
+-- the sample's settings, with two columns announced
 abbrev pub head : List ℕ
 head = 3 ∷ 90 ∷ 90 ∷ 0 ∷ 2 ∷ 0 ∷ []
 
+-- its second column
 abbrev pub second : List ℕ
 second = 3 ∷ 0 ∷ 65 ∷ 20 ∷ 67 ∷ 20 ∷ 78 ∷ 20 ∷ []
 
+-- its strings
 abbrev pub set : List ℕ
 set = 2 ∷ 2 ∷ 65 ∷ 67 ∷ 2 ∷ 65 ∷ 71 ∷ []
 
--- the sample, in a buffer of two bytes more
+-- the five steps
 abbrev pub sampleSteps : List Step
 sampleSteps = put settings head ∷ put column (0 ∷ 0 ∷ []) ∷ put column second ∷ put strings set ∷ finish ∷ []
 
+-- the sample whole
 abbrev pub sampleFile : List ℕ
 sampleFile = head ++ (0 ∷ 0 ∷ second ++ set)
 
@@ -57,11 +61,13 @@ mixedSteps =
     ∷ put settings head
     ∷ []
 
+-- and their numbers
 abbrev pub mixedNumbers : List ℕ
 mixedNumbers = 13 ∷ 3 ∷ 0 ∷ 13 ∷ 0 ∷ 4 ∷ 0 ∷ 13 ∷ 13 ∷ 2 ∷ 0 ∷ 0 ∷ 13 ∷ 13 ∷ []
 
 -- ---- a part for a writer at a stage, with so many bytes written, and a buffer of so many bytes
 
+-- with the number that is to be given
 pub record Case : Type 0 where
   pub stage : Stage
   pub written : ℕ
@@ -70,6 +76,7 @@ pub record Case : Type 0 where
   pub room : ℕ
   pub number : ℕ
 
+-- at the sample's settings, so many columns to come
 abbrev pub awaits : ℕ → Stage
 awaits left = AwaitsColumns (settingsAt 90 90 0) left
 
@@ -77,9 +84,11 @@ awaits left = AwaitsColumns (settingsAt 90 90 0) left
 abbrev pub single : ℕ → List ℕ
 single quality = 1 ∷ 0 ∷ 65 ∷ quality ∷ []
 
+-- the same in one line
 abbrev pub case : Stage → ℕ → PartKind → List ℕ → ℕ → ℕ → Case
 case stage written kind part room number = record { stage = stage; written = written; kind = kind; part = part; room = room; number = number }
 
+-- the cases by number
 abbrev pub cases : List Case
 cases =
     -- 13 before 2: no bytes at all, out of turn
@@ -120,16 +129,20 @@ cases =
     ∷ case (awaits 0) 6 strings (2 ∷ 1 ∷ 65 ∷ 1 ∷ 45 ∷ []) 99 0
     ∷ []
 
-abbrev pub holds : Case → Bool
-holds c = eqb (numberIn (putIn (writerAt (c .stage) (c .written)) (c .kind) (c .part) (replicate (c .room) 0))) (c .number)
+-- the number is the one that the definition gives
+abbrev pub caseHolds : Case → Bool
+caseHolds c = eqb (numberIn (putIn (writerAt (c .stage) (c .written)) (c .kind) (c .part) (replicate (c .room) 0))) (c .number)
 
--- ---- all of them
+-- ---- the two lists of steps
 
+-- a buffer of two bytes more than the sample
 abbrev pub spare : List ℕ
 spare = replicate 25 7
 
+-- the steps give the sample and leave the two bytes
 abbrev pub sampleWritten : List Step → Bool
 sampleWritten es = sameBytes (draftAfter es spare .file) (sampleFile ++ (7 ∷ 7 ∷ []))
 
+-- all steps of the one list are accepted, and those of the other have their numbers
 abbrev pub sampleNumbers : Bool
-sampleNumbers = sameBytes (numbersOf sampleSteps (newDraft spare)) (replicate 5 0) && sameBytes (numbersOf mixedSteps (newDraft spare)) mixedNumbers
+sampleNumbers = sameBytes (stepNumbers sampleSteps (newDraft spare)) (replicate 5 0) && sameBytes (stepNumbers mixedSteps (newDraft spare)) mixedNumbers

@@ -36,17 +36,17 @@ saidOf (put kind part) d = putIn (d .writer) kind part (d .file)
 saidOf finish d = finishOf (d .writer)
 
 -- the draft after a step
-abbrev pub step : Step → Draft → Draft
-step e d = record { writer = writerAfter (d .writer) (saidOf e d); file = fileAfter (d .writer) (partOf e) (d .file) (saidOf e d) }
+abbrev pub afterStep : Step → Draft → Draft
+afterStep e d = record { writer = writerAfter (d .writer) (saidOf e d); file = fileAfter (d .writer) (partOf e) (d .file) (saidOf e d) }
 
 -- after a list of steps
-abbrev pub run : List Step → Draft → Draft
-run [] d = d
-run (e ∷ es) d = run es (step e d)
+abbrev pub afterSteps : List Step → Draft → Draft
+afterSteps [] d = d
+afterSteps (e ∷ es) d = afterSteps es (afterStep e d)
 
 -- from a new writer on
 abbrev pub draftAfter : List Step → List ℕ → Draft
-draftAfter es out = run es (newDraft out)
+draftAfter es out = afterSteps es (newDraft out)
 
 -- a step before others, if it is accepted
 abbrev pub keptBy : Step → Result Writer → List Step → List Step
@@ -56,14 +56,14 @@ keptBy e (accepted w) es = e ∷ es
 -- those of the steps that are accepted, in their order
 abbrev pub kept : List Step → Draft → List Step
 kept [] d = []
-kept (e ∷ es) d = keptBy e (saidOf e d) (kept es (step e d))
+kept (e ∷ es) d = keptBy e (saidOf e d) (kept es (afterStep e d))
 
 -- the step that writes a column
 abbrev pub columnStep : List Observation → Step
 columnStep c = put column (columnBytes c)
 
 -- the steps that write what a file says: its settings with the number of its columns, each column, its strings, the finish
-abbrev pub stepsOf : File → List Step
-stepsOf f =
+abbrev pub fileSteps : File → List Step
+fileSteps f =
     put settings (announcedBytes (f .settings) (length (f .columns)))
     ∷ (map columnStep (f .columns) ++ (put strings (stringSetBytes (f .strings)) ∷ finish ∷ []))

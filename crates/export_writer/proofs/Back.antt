@@ -1,18 +1,17 @@
 -- A writer's number leads back to it, and a number's writer back to the number. Assumes nothing.
 use mathlib.Core.Path.{_≡_, refl, sym, _∙_, ap}
 use mathlib.Core.Bool.{_||_}
-use Prim.Native.Nat.{ℕ, zero, suc, _+_, _-_, _*_, _/_, _%_, _≤_, _<_}
+use Prim.Native.Nat.{ℕ, _+_, _-_, _*_, _/_, _%_, _≤_, _<_}
 use native.Mathlib.Omega.{arith}
-use borrow.Author.Tests.{le-ltb, ltb-false, eqb-true, eqb-false}
+use borrow.Author.Tests.{le-ltb, ltb-false, eqb-true, eqb-false, leb-true}
 use lib.Dec.{eqb, ltb}
 use Rattle.words.proofs.Cases.{test, choice, neither}
 use Rattle.refusals.specs.declared.Refusal.the-variants.{OutOfTurn}
 use Rattle.refusals.specs.Result.{refused, accepted}
 use Rattle.tie_rules.specs.declared.tie_rule.TieRule.{TieRule}
-use Rattle.tie_rules.specs.declared.tie_rule.TieRule.the-variants.{UlpRelative, FgbioCompat}
-use Rattle.tie_rules.specs.Ties.{ruleOf}
 use Rattle.string_set.specs.Readers.{longestFile}
 use Rattle.column_file.specs.Encoding.{ruleNumber}
+use Rattle.column_file_laws.proofs.Both.{rule-back, number-back}
 use Rattle.column_writer.specs.declared.stages.Stage.{Stage}
 use Rattle.column_writer.specs.declared.stages.Stage.the-variants.{AwaitsSettings, AwaitsColumns, AwaitsFinish, Finished}
 use Rattle.column_writer.specs.declared.writer.Writer.{Writer}
@@ -23,18 +22,7 @@ use Rattle.export_writer.proofs.Coded.{columns-stage, numbered}
 -- ---- a rule by its number, and back
 
 rule-small : (t : TieRule) → ruleNumber t ≤ 1
-rule-small FgbioCompat = omega arith
-rule-small UlpRelative = omega arith
-
-rule-back : (t : TieRule) → ruleOf (ruleNumber t) ≡ t
-rule-back FgbioCompat = refl
-rule-back UlpRelative = refl
-
-number-back : (n : ℕ) → n ≤ 1 → ruleNumber (ruleOf n) ≡ n
-number-back zero h = refl
-number-back (suc n) h =
-    let e : n ≡ 0 = omega arith in
-    rw e
+rule-small t = leb-true (ruleNumber t) 1 (rule-back t .0)
 
 -- ---- a stage
 
@@ -87,7 +75,7 @@ stage-back (AwaitsColumns g left) h =
     let n = 3 + rule + (2 * pre + 512 * post) + 131072 * left in
     let e : n - 3 ≡ rule + (2 * pre + 512 * post) + 131072 * left = omega arith in
     sym (columns-stage n (λ z. omega arith) (λ z. omega arith) (λ z. omega arith) _ refl)
-    ∙ rw (read-rule rule pre post left (n - 3) small (h .0) (h .1) e, rule-back (g .«tie_rule»), read-pre rule pre post left (n - 3) small (h .0) (h .1) e)
+    ∙ rw (read-rule rule pre post left (n - 3) small (h .0) (h .1) e, rule-back (g .«tie_rule») .1, read-pre rule pre post left (n - 3) small (h .0) (h .1) e)
     (rw (read-post rule pre post left (n - 3) small (h .0) (h .1) e, read-left rule pre post left (n - 3) small (h .0) (h .1) e))
 stage-back AwaitsFinish h = refl
 stage-back Finished h = refl

@@ -24,15 +24,14 @@ use Rattle.column_writer.specs.declared.stages.PartKind.the-variants.{Settings 
 use Rattle.column_writer.specs.declared.writer.Writer.{Writer}
 use Rattle.column_writer.specs.Stages.{oneColumnLess, afterSettings, afterColumn, afterStrings, nextStage}
 use Rattle.column_writer.specs.Writing.{newWriter, putIn, finishOf, writerAfter}
-use Rattle.column_writer_laws.specs.Steps.{Step, put, finish, partOf, Draft, newDraft, saidOf, step, run}
+use Rattle.column_writer_laws.specs.Steps.{Step, put, finish, partOf, Draft, newDraft, saidOf, afterStep, afterSteps}
 use Rattle.column_writer_laws.specs.Laws.{areBytes}
-use Rattle.column_writer_laws.proofs.Drafts.{Put, put-known}
-use Rattle.column_writer_laws.proofs.Accepted.{read-part}
-use Rattle.column_writer_laws.proofs.Held.{outcome, finish-known}
+use Rattle.column_writer_laws.proofs.Drafts.{read-part, Put, put-known}
+use Rattle.column_writer_laws.proofs.LedTo.{outcome, finish-known}
 use Rattle.column_writer_laws.proofs.Laws.{nothing-put}
 use Rattle.export_writer.specs.Numbers.{firstWriter, writerNumber}
 use Rattle.export_writer.specs.Replies.{replyOf, writeIn, finishIn, fileBy}
-use Rattle.export_writer.specs.Laws.{SmallStage, Small, heldOf, numberAfter, called, calledAll, NumberLaws}
+use Rattle.export_writer.specs.Laws.{SmallStage, Small, heldOf, numberAfter, heldAfter, heldAfterAll, NumberLaws}
 use Rattle.export_writer.proofs.Back.{no-refusal, read-back, only}
 
 -- ---- every writer that is reached has a number
@@ -85,19 +84,19 @@ number-after w (refused r) a = let small = number-small r in rw (lt-ltb (numberO
 number-after w (accepted v) a = rw (le-ltb (writerNumber v) firstWriter (no-refusal v a))
 
 called-put : (kind : PartKind) (part : List ℕ) (d : Draft) → Small (d .writer) → Accepting Small (putIn (d .writer) kind part (d .file))
-    → called (put kind part) (heldOf d) ≡ heldOf (step (put kind part) d)
+    → heldAfter (put kind part) (heldOf d) ≡ heldOf (afterStep (put kind part) d)
 unfolding writeIn fileBy
 called-put kind part d s a = rw (read-back (d .writer) s, number-after (d .writer) (putIn (d .writer) kind part (d .file)) a)
 
 -- a finish leaves the buffer
-finish-file : (d : Draft) → step finish d .file ≡ d .file
+finish-file : (d : Draft) → afterStep finish d .file ≡ d .file
 finish-file d = outcome (saidOf finish d) (λ r q. rw q) (λ v q. rw q (nothing-put (d .writer .written) (d .file)))
 
-called-finish : (d : Draft) → Small (d .writer) → Accepting Small (finishOf (d .writer)) → called finish (heldOf d) ≡ heldOf (step finish d)
+called-finish : (d : Draft) → Small (d .writer) → Accepting Small (finishOf (d .writer)) → heldAfter finish (heldOf d) ≡ heldOf (afterStep finish d)
 unfolding finishIn
 called-finish d s a = rw (read-back (d .writer) s, number-after (d .writer) (finishOf (d .writer)) a, finish-file d)
 
-called-one : (e : Step) (d : Draft) → Small (d .writer) → Accepting Small (saidOf e d) → called e (heldOf d) ≡ heldOf (step e d)
+called-one : (e : Step) (d : Draft) → Small (d .writer) → Accepting Small (saidOf e d) → heldAfter e (heldOf d) ≡ heldOf (afterStep e d)
 called-one (put kind part) d s a = called-put kind part d s a
 called-one finish d s a = called-finish d s a
 
@@ -110,17 +109,17 @@ module _ (e : Step) (es : List Step) (h : areBytes (e ∷ es) ≡ true) (d : Dra
   said-small : Accepting Small (saidOf e d)
   said-small = small-said e d (are .0) s
 
-  step-small : Small (step e d .writer)
+  step-small : Small (afterStep e d .writer)
   step-small = small-after (d .writer) (saidOf e d) s said-small
 
-run-small : (es : List Step) → areBytes es ≡ true → (d : Draft) → Small (d .writer) → Small (run es d .writer)
+run-small : (es : List Step) → areBytes es ≡ true → (d : Draft) → Small (d .writer) → Small (afterSteps es d .writer)
 run-small [] h d s = s
-run-small (e ∷ es) h d s = run-small es (are e es h d s .1) (step e d) (step-small e es h d s)
+run-small (e ∷ es) h d s = run-small es (are e es h d s .1) (afterStep e d) (step-small e es h d s)
 
-called-run : (es : List Step) → areBytes es ≡ true → (d : Draft) → Small (d .writer) → calledAll es (heldOf d) ≡ heldOf (run es d)
+called-run : (es : List Step) → areBytes es ≡ true → (d : Draft) → Small (d .writer) → heldAfterAll es (heldOf d) ≡ heldOf (afterSteps es d)
 called-run [] h d s = refl
 called-run (e ∷ es) h d s =
-    ap (calledAll es) (called-one e d s (said-small e es h d s)) ∙ called-run es (are e es h d s .1) (step e d) (step-small e es h d s)
+    ap (heldAfterAll es) (called-one e d s (said-small e es h d s)) ∙ called-run es (are e es h d s .1) (afterStep e d) (step-small e es h d s)
 
 new-small : Small newWriter
 new-small = (omega arith, tt)

@@ -43,16 +43,17 @@ numberAfter n reply =
     else reply
 
 -- after a step by its number
-abbrev pub called : Step → Held → Held
-called (put kind part) h =
+abbrev pub heldAfter : Step → Held → Held
+heldAfter (put kind part) h =
     record { number = numberAfter (h .number) (replyOf (writeIn (h .number) kind part (h .file))); file = fileBy (h .number) kind part (h .file) }
-called finish h = record { number = numberAfter (h .number) (replyOf (finishIn (h .number))); file = h .file }
+heldAfter finish h = record { number = numberAfter (h .number) (replyOf (finishIn (h .number))); file = h .file }
 
 -- after a list of them
-abbrev pub calledAll : List Step → Held → Held
-calledAll [] h = h
-calledAll (e ∷ es) h = calledAll es (called e h)
+abbrev pub heldAfterAll : List Step → Held → Held
+heldAfterAll [] h = h
+heldAfterAll (e ∷ es) h = heldAfterAll es (heldAfter e h)
 
+-- of numbers and writers
 pub record NumberLaws : Type 0 where
   -- no writer's number is that of a refusal
   pub no-refusal : (w : Writer) → Small w → firstWriter ≤ writerNumber w
@@ -64,4 +65,4 @@ pub record NumberLaws : Type 0 where
   pub reached : (es : List Step) → areBytes es ≡ true → (out : List ℕ) → Small (draftAfter es out .writer)
   -- steps by numbers, from the new writer's on, lead to the number of the writer and to the buffer that the steps lead to
   pub chained : (es : List Step) → areBytes es ≡ true → (out : List ℕ)
-      → calledAll es (record { number = writerNumber newWriter; file = out }) ≡ heldOf (draftAfter es out)
+      → heldAfterAll es (record { number = writerNumber newWriter; file = out }) ≡ heldOf (draftAfter es out)

@@ -29,6 +29,7 @@ abbrev pub fileOfWriter : Result Writer → PartKind → List ℕ → List ℕ �
 fileOfWriter (refused r) kind part file = file
 fileOfWriter (accepted w) kind part file = fileAfter w part file (putIn w kind part file)
 
+-- by the writer's number
 unfoldable pub fileBy : ℕ → PartKind → List ℕ → List ℕ → List ℕ
 fileBy n kind part file = fileOfWriter (writerOf n) kind part file
 
@@ -37,14 +38,17 @@ abbrev pub writtenOfWriter : Result Writer → ℕ
 writtenOfWriter (refused r) = 0
 writtenOfWriter (accepted w) = w .written
 
+-- by the writer's number
 unfoldable pub writtenBy : ℕ → ℕ
 writtenBy n = writtenOfWriter (writerOf n)
 
 -- ---- the same of a step's answer
 
-abbrev pub answerReply : StepAnswer → Writer → ℕ
-answerReply (Refused r) w = numberOf r
-answerReply Accepted w = writerNumber w
+-- the number of its refusal, or of the writer beside it
+abbrev pub stepReply : StepAnswer → Writer → ℕ
+stepReply (Refused r) w = numberOf r
+stepReply Accepted w = writerNumber w
 
+-- of what a step returns
 abbrev pub steppedNumber : Stepped → ℕ
-steppedNumber s = answerReply (s .answer) (s .writer)
+steppedNumber s = stepReply (s .answer) (s .writer)

@@ -20,9 +20,10 @@ use Rattle.column_writer.specs.declared.stages.PartKind.{PartKind}
 use Rattle.column_writer.specs.declared.writer.Writer.{Writer}
 use Rattle.column_writer.specs.Stages.{awaitsFinish}
 use Rattle.column_writer.specs.Writing.{finishOf}
-use Rattle.column_writer_laws.specs.Steps.{Step, put, finish, partOf, Draft, newDraft, saidOf, step, run, draftAfter, keptBy, kept}
+use Rattle.column_writer.proofs.Said.{granted}
+use Rattle.column_writer_laws.specs.Steps.{Step, put, finish, partOf, Draft, newDraft, saidOf, afterStep, afterSteps, draftAfter, keptBy, kept}
 use Rattle.column_writer_laws.specs.Laws.{areBytes}
-use Rattle.column_writer_laws.proofs.Drafts.{draftAt, drafted-length, part-more, put-steps, Put, put-known, in-turn}
+use Rattle.column_writer_laws.proofs.Drafts.{draftAt, drafted-length, part-more, put-steps, Put, put-known}
 use Rattle.column_writer_laws.proofs.Accepted.{Shape, shape-more, shape-finished}
 
 -- what follows from either outcome
@@ -36,11 +37,11 @@ unfolding finishOf
 finish-known w =
     choice (Accepting (λ v. (awaitsFinish (w .stage) ≡ true) × (v ≡ record { stage = Finished; written = w .written }))) (not (awaitsFinish (w .stage))) _ _
     (λ e. tt)
-    (λ t. (in-turn _ t, refl))
+    (λ t. (granted _ t, refl))
 
 module _ (out : List ℕ) where
   -- the accepted steps es have led to this draft
-  pub record Held (es : List Step) (d : Draft) : Type 0 where
+  pub record LedTo (es : List Step) (d : Draft) : Type 0 where
     pub stage : Stage
     pub draft : d ≡ draftAt stage (joined partOf es) out
     pub short : length (joined partOf es) ≤ longestFile
@@ -56,7 +57,7 @@ module _ (out : List ℕ) where
     before = draftAt stage (joined partOf es) out
 
     put-held : (kind : PartKind) (part : List ℕ) → every isByte part ≡ true → (v : Writer) → saidOf (put kind part) before ≡ accepted v
-        → Held (es ++ (put kind part ∷ [])) (step (put kind part) before)
+        → LedTo (es ++ (put kind part ∷ [])) (afterStep (put kind part) before)
     put-held kind part h v q =
         let bs = joined partOf es in
         let k : Put (before .writer) kind part (before .file) v = subst (Accepting (Put (before .writer) kind part (before .file))) q (put-known (before .writer) kind part (before .file)) in
@@ -72,7 +73,7 @@ module _ (out : List ℕ) where
           shape = subst (Accepting (λ (next : Stage). Shape next (es ++ (put kind part ∷ [])))) (k .reads) (shape-more part es h kind stage (k .turn) shape);
         }
 
-    finish-held : (v : Writer) → saidOf finish before ≡ accepted v → Held (es ++ (finish ∷ [])) (step finish before)
+    finish-held : (v : Writer) → saidOf finish before ≡ accepted v → LedTo (es ++ (finish ∷ [])) (afterStep finish before)
     finish-held v q =
         let bs = joined partOf es in
         let k = subst (Accepting (λ (v : Writer). (awaitsFinish stage ≡ true) × (v ≡ record { stage = Finished; written = length bs }))) q (finish-known (before .writer)) in
@@ -86,7 +87,7 @@ module _ (out : List ℕ) where
           shape = shape-finished stage es (k .0) shape;
         }
 
-    step-held : (e : Step) → every isByte (partOf e) ≡ true → (v : Writer) → saidOf e before ≡ accepted v → Held (es ++ (e ∷ [])) (step e before)
+    step-held : (e : Step) → every isByte (partOf e) ≡ true → (v : Writer) → saidOf e before ≡ accepted v → LedTo (es ++ (e ∷ [])) (afterStep e before)
     step-held (put kind part) h v q = put-held kind part h v q
     step-held finish h v q = finish-held v q
 
@@ -95,7 +96,7 @@ module _ (out : List ℕ) where
   kept-more es e l q v h = rw (h, append-assoc es (e ∷ []) l)
 
   run-held : (steps es : List Step) (stage : Stage) → areBytes steps ≡ true → length (joined partOf es) ≤ longestFile → length (joined partOf es) ≤ length out → Shape stage es
-      → Held (es ++ kept steps (draftAt stage (joined partOf es) out)) (run steps (draftAt stage (joined partOf es) out))
+      → LedTo (es ++ kept steps (draftAt stage (joined partOf es) out)) (afterSteps steps (draftAt stage (joined partOf es) out))
   run-held [] es stage h short room shape = rw (append-nil es) (record { stage = stage; draft = refl; short = short; room = room; shape = shape })
   run-held (e ∷ steps) es stage h short room shape =
       let d = draftAt stage (joined partOf es) out in
@@ -105,9 +106,9 @@ module _ (out : List ℕ) where
       (λ v q.
       let k = step-held es stage short room shape e (are .0) v q in
       let on = run-held steps (es ++ (e ∷ [])) (k .stage) (are .1) (k .short) (k .room) (k .shape) in
-      let there = subst (λ (x : Draft). Held ((es ++ (e ∷ [])) ++ kept steps x) (run steps x)) (sym (k .draft)) on in
-      subst (λ (l : List Step). Held l (run steps (step e d))) (sym (kept-more es e (kept steps (step e d)) (saidOf e d) v q)) there)
+      let there = subst (λ (x : Draft). LedTo ((es ++ (e ∷ [])) ++ kept steps x) (afterSteps steps x)) (sym (k .draft)) on in
+      subst (λ (l : List Step). LedTo l (afterSteps steps (afterStep e d))) (sym (kept-more es e (kept steps (afterStep e d)) (saidOf e d) v q)) there)
 
   -- from a new writer on
-  pub held : (steps : List Step) → areBytes steps ≡ true → Held (kept steps (newDraft out)) (draftAfter steps out)
-  held steps h = run-held steps [] AwaitsSettings h (omega arith) (omega arith) refl
+  pub led-to : (steps : List Step) → areBytes steps ≡ true → LedTo (kept steps (newDraft out)) (draftAfter steps out)
+  led-to steps h = run-held steps [] AwaitsSettings h (omega arith) (omega arith) refl
