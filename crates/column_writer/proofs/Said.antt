@@ -5,9 +5,8 @@ use mathlib.Core.List.{List}
 use Prim.Native.Nat.{ℕ, _+_}
 use native.Mathlib.Omega.{arith}
 use lib.Dec.{ltb, leb}
-use borrow.Author.Tests.{lt-ltb, le-ltb, leb-true, leb-false}
+use borrow.Author.Tests.{lt-ltb, le-ltb, leb-true, leb-false, not-true, not-false}
 use lib.ListN.{length}
-use Rattle.words.proofs.Cases.{clash}
 use Rattle.lent_bytes.specs.Buffer.{writtenAt}
 use Rattle.lent_bytes.proofs.Buffer.{short-written-at}
 use Rattle.refusals.specs.declared.Refusal.{Refusal}
@@ -25,21 +24,12 @@ use Rattle.column_writer.specs.declared.writer.StepAnswer.the-variants.{
 use Rattle.column_writer.specs.Stages.{inTurn, awaitsFinish, nextStage, nextOf}
 use Rattle.column_writer.specs.Writing.{roomForPart, putIn, finishOf, fileAfter, stepNumber, steppedBy}
 
--- what the negation of a test says of it
-pub denied : (b : Bool) → not b ≡ true → b ≡ false
-denied true h = clash refl h
-denied false h = refl
-
-pub granted : (b : Bool) → not b ≡ false → b ≡ true
-granted true h = refl
-granted false h = clash h refl
-
--- of one that was asked
+-- a test that was asked, and what its negation says of it
 pub it-fails : (b t : Bool) → b ≡ t → not b ≡ true → t ≡ false
-it-fails b t e h = sym e ∙ denied b h
+it-fails b t e h = sym e ∙ not-true b h
 
 pub it-holds : (b t : Bool) → b ≡ t → not b ≡ false → t ≡ true
-it-holds b t e h = sym e ∙ granted b h
+it-holds b t e h = sym e ∙ not-false b h
 
 next-refused : (q : Result Stage) (r : Refusal) → next.Refused r ≡ nextOf q → q ≡ refused r
 next-refused (refused s) r e = cc

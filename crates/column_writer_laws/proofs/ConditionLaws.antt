@@ -4,7 +4,7 @@ use mathlib.Core.Bool.{true, false}
 use mathlib.Core.List.{List}
 use Prim.Native.Nat.{ℕ, suc, _+_, _≤_, _<_}
 use native.Mathlib.Omega.{arith}
-use borrow.Author.Tests.{lt-ltb, le-ltb, ne-eqb}
+use borrow.Author.Tests.{lt-ltb, le-ltb, ne-eqb, not-true, not-false}
 use lib.ListN.{length}
 use Rattle.words.proofs.Cases.{clash}
 use Rattle.words.specs.Lists.{byteAt}
@@ -25,7 +25,6 @@ use Rattle.column_writer.specs.declared.stages.PartKind.the-variants.{Settings 
 use Rattle.column_writer.specs.declared.writer.Writer.{Writer}
 use Rattle.column_writer.specs.Stages.{inTurn, oneColumnLess, afterSettings, afterColumn, afterStrings, nextStage}
 use Rattle.column_writer.specs.Writing.{roomForPart, putIn, finishOf}
-use Rattle.column_writer.proofs.Said.{denied, granted}
 use Rattle.column_writer_laws.specs.Conditions.{ByCounts, countedSettings, countedColumn, countedStrings, byCounts, areBadSettings, hasAbsent}
 use Rattle.column_writer_laws.specs.Conditions.{PartConditions, FinishConditions, TurnLaws}
 
@@ -46,9 +45,9 @@ unfolding settingsOf
 settings-by (refused r) = refl
 settings-by (accepted a) =
     let bs = a .0 in (
-      (λ t. rw (denied (isSettings bs) t)),
+      (λ t. rw (not-true (isSettings bs) t)),
       (λ t e. clash refl e),
-      (λ t e. (AwaitsColumns (settingsAt (byteAt bs 0) (byteAt bs 1) (byteAt bs 2)) (a .1), rw (granted (isSettings bs) t))),
+      (λ t e. (AwaitsColumns (settingsAt (byteAt bs 0) (byteAt bs 1) (byteAt bs 2)) (a .1), rw (not-false (isSettings bs) t))),
     )
 
 column-by : (stage : Stage) (q : Result (List Observation)) → By (andThen q (λ c. accepted (countedColumn c)))

@@ -4,7 +4,7 @@ use mathlib.Core.Bool.{true, not}
 use mathlib.Core.List.{List, _++_}
 use Prim.Native.Nat.{ℕ, _+_, _≤_}
 use native.Mathlib.Omega.{arith}
-use borrow.Author.Tests.{le-ltb, le-leb, ltb-false}
+use borrow.Author.Tests.{le-ltb, le-leb, ltb-false, not-false}
 use lib.Dec.{ltb}
 use lib.ListN.{length, drop, length-append, length-drop}
 use lib.Seq.{take-append-seam, drop-append-add, drop-drop}
@@ -19,7 +19,6 @@ use Rattle.column_writer.specs.declared.stages.PartKind.{PartKind}
 use Rattle.column_writer.specs.Stages.{inTurn}
 use Rattle.column_writer.specs.Stages.{nextStage}
 use Rattle.column_writer.specs.Writing.{roomForPart, putIn}
-use Rattle.column_writer.proofs.Said.{granted}
 use Rattle.column_writer_laws.specs.Steps.{put, Draft, saidOf, afterStep}
 
 -- the bytes bs are written, in a buffer that held out
@@ -76,4 +75,4 @@ put-known w kind part file =
     (λ t. choice (Accepting (Put w kind part file)) (ltb longestFile end) _ _ (λ e. tt)
     (λ s. further (λ next. nextStage (w .stage) kind part ≡ accepted next) (Put w kind part file) (nextStage (w .stage) kind part) _ (read-part (λ next. nextStage (w .stage) kind part ≡ accepted next) (nextStage (w .stage) kind part) (λ next e. e))
     (λ next n. choice (Accepting (Put w kind part file)) (ltb (length file) end) _ _ (λ e. tt)
-    (λ r. record { turn = granted _ t; short = ltb-false longestFile end s; room = ltb-false (length file) end r; reads = n; written = refl }))))
+    (λ r. record { turn = not-false _ t; short = ltb-false longestFile end s; room = ltb-false (length file) end r; reads = n; written = refl }))))

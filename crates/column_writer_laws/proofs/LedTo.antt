@@ -4,6 +4,7 @@ use mathlib.Core.Bool.{true, not}
 use mathlib.Core.List.{List, [], _∷_, _++_, append-nil, append-assoc}
 use Prim.Native.Nat.{ℕ, _+_, _≤_}
 use native.Mathlib.Omega.{arith}
+use borrow.Author.Tests.{not-false}
 use lib.ListN.{length, length-append}
 use Rattle.words.proofs.Cases.{choice, both}
 use Rattle.words.specs.Lists.{every}
@@ -20,7 +21,6 @@ use Rattle.column_writer.specs.declared.stages.PartKind.{PartKind}
 use Rattle.column_writer.specs.declared.writer.Writer.{Writer}
 use Rattle.column_writer.specs.Stages.{awaitsFinish}
 use Rattle.column_writer.specs.Writing.{finishOf}
-use Rattle.column_writer.proofs.Said.{granted}
 use Rattle.column_writer_laws.specs.Steps.{Step, put, finish, partOf, Draft, newDraft, saidOf, afterStep, afterSteps, draftAfter, keptBy, kept}
 use Rattle.column_writer_laws.specs.Laws.{areBytes}
 use Rattle.column_writer_laws.proofs.Drafts.{draftAt, drafted-length, part-more, put-steps, Put, put-known}
@@ -37,7 +37,7 @@ unfolding finishOf
 finish-known w =
     choice (Accepting (λ v. (awaitsFinish (w .stage) ≡ true) × (v ≡ record { stage = Finished; written = w .written }))) (not (awaitsFinish (w .stage))) _ _
     (λ e. tt)
-    (λ t. (granted _ t, refl))
+    (λ t. (not-false _ t, refl))
 
 module _ (out : List ℕ) where
   -- the accepted steps es have led to this draft
