@@ -10,7 +10,7 @@ use rate_tables::AdjustedProbabilityTables;
 use tie_rules::{NO_LANE, TieRule, lane_of};
 use widths::u32_as_u64;
 
-#[derive(Drop)]
+#[derive(Clone, Copy)]
 pub struct ConsensusBaseBuilder {
     // The logarithm of the likelihood of A, C, G and T, and its compensation.
     pub likelihoods: [f64; 4],
@@ -24,7 +24,7 @@ pub struct ConsensusBaseBuilder {
 // The number of observations that fill a builder.
 pub const FULL_COUNT: u64 = 4294967295;
 
-#[derive(Drop)]
+#[derive(Clone, Copy)]
 pub enum Answer {
     // The base was counted, or ignored as no base.
     Accepted,
@@ -33,7 +33,7 @@ pub enum Answer {
 }
 
 // What `add` gives: the builder, unchanged where it refuses.
-#[derive(Drop)]
+#[derive(Clone, Copy)]
 pub struct Addition {
     pub builder: ConsensusBaseBuilder,
     pub answer: Answer,

@@ -11,7 +11,7 @@ use lane_calls::Call;
 use observation_windows::add_observations;
 
 // A column's call, and how often A, C, G and T were observed.
-#[derive(Drop)]
+#[derive(Clone, Copy)]
 pub struct ColumnCall {
     pub call: Call,
     pub counts: [u32; 4],

@@ -1,1 +1,2 @@
 // No code: what holds of the error sums of every file, beside its listing.
+#![tactic(auto)]

@@ -11,21 +11,21 @@ use crate::settings::word_at;
 use refusals::{Refusal, Verdict, or_else};
 
 // Where the first observation of a column is, and how many there are; or the bytes do not reach so far.
-#[derive(Drop)]
+#[derive(Clone, Copy)]
 pub enum ColumnPlace {
     At(usize, usize),
     Past,
 }
 
 // Refused, or how many observations there are.
-#[derive(Drop)]
+#[derive(Clone, Copy)]
 pub enum ColumnReading {
     Refused(Refusal),
     Accepted(usize),
 }
 
 // Where a walk over columns ends, and the first verdict that refuses.
-#[derive(Drop)]
+#[derive(Clone, Copy)]
 pub enum Walked {
     At(usize, Verdict),
     Past,

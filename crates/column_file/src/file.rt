@@ -10,7 +10,7 @@ use crate::columns::{Walked, walk_columns};
 use crate::settings::{Head, Settings, Settled, head_of, settled_at};
 use refusals::{Refusal, Verdict};
 
-#[derive(Drop)]
+#[derive(Clone, Copy)]
 pub struct Places {
     pub settings: Settings,
     // Where the first column's count is, how many columns there are, and where the string set is.
@@ -19,14 +19,14 @@ pub struct Places {
     pub strings: usize,
 }
 
-#[derive(Drop)]
+#[derive(Clone, Copy)]
 pub enum Reading {
     Refused(Refusal),
     Accepted(Places),
 }
 
 // Where the columns are, how many, where the string set is, and what is faulty in the columns.
-#[derive(Drop)]
+#[derive(Clone, Copy)]
 pub enum Extent {
     Cut,
     At(usize, usize, usize, Verdict),

@@ -10,7 +10,7 @@ use refusals::Refusal;
 use tie_rules::{TieRule, rule_of};
 use widths::wide;
 
-#[derive(Drop)]
+#[derive(Clone, Copy)]
 pub struct Settings {
     pub error_rate_pre_umi: PhredScore,
     pub error_rate_post_umi: PhredScore,
@@ -18,21 +18,21 @@ pub struct Settings {
 }
 
 // Refused, or the settings and the number of columns that they announce.
-#[derive(Drop)]
+#[derive(Clone, Copy)]
 pub enum SettingsReading {
     Refused(Refusal),
     Accepted(Settings, usize),
 }
 
 // Where the first column is, and how many there are.
-#[derive(Drop)]
+#[derive(Clone, Copy)]
 pub enum Head {
     At(usize, usize),
     Past,
 }
 
 // The settings, where they are three and the rule is one.
-#[derive(Drop)]
+#[derive(Clone, Copy)]
 pub enum Settled {
     Refused(Refusal),
     Accepted(Settings),

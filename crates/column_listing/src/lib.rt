@@ -1,4 +1,5 @@
 // The listing of a column file: a line for each column, and one for its strings.
+#![tactic(auto)]
 mod listing;
 
 pub use listing::{Listing, list, print};

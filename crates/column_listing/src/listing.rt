@@ -22,14 +22,14 @@ use refusal_text::print_refusal;
 use refusals::Refusal;
 
 // Refused, or the length of the text.
-#[derive(Drop)]
+#[derive(Clone, Copy)]
 pub enum Listing {
     Refused(Refusal),
     Given(usize),
 }
 
 // The same before 10 has its number.
-#[derive(Drop)]
+#[derive(Clone, Copy)]
 pub enum Outcome {
     Refused(Refusal),
     TooShort,

@@ -1,1 +1,2 @@
 // No code: what holds of the listing of every file.
+#![tactic(auto)]

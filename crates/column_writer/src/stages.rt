@@ -6,7 +6,7 @@ use column_file::{ColumnReading, Settings, SettingsReading, read_column, read_se
 use refusals::Refusal;
 
 // What comes next.
-#[derive(Drop)]
+#[derive(Clone, Copy)]
 pub enum Stage {
     AwaitsSettings,
     // So many columns more, in a file of these settings; after the last of them the string set.
@@ -16,7 +16,7 @@ pub enum Stage {
 }
 
 // The parts of a file that are lent.
-#[derive(Drop)]
+#[derive(Clone, Copy)]
 pub enum PartKind {
     // With the announced number of columns.
     Settings,
@@ -25,7 +25,7 @@ pub enum PartKind {
 }
 
 // The stage after a part, or what the part is refused by.
-#[derive(Drop)]
+#[derive(Clone, Copy)]
 pub enum Next {
     Refused(Refusal),
     Stage(Stage),

@@ -12,14 +12,14 @@ use lent_bytes::write_at;
 use refusals::Refusal;
 use string_set::LONGEST_FILE;
 
-#[derive(Drop)]
+#[derive(Clone, Copy)]
 pub struct Writer {
     pub stage: Stage,
     // How many bytes of the file are written; after the finish, how long the file is.
     pub written: usize,
 }
 
-#[derive(Drop)]
+#[derive(Clone, Copy)]
 pub enum StepAnswer {
     Refused(Refusal),
     Accepted,
@@ -27,7 +27,7 @@ pub enum StepAnswer {
 
 // The writer after a step, and what the step answers. A refusal leaves the writer and the buffer as they
 // were.
-#[derive(Drop)]
+#[derive(Clone, Copy)]
 pub struct Stepped {
     pub writer: Writer,
     pub answer: StepAnswer,

@@ -1,1 +1,2 @@
 // No code: what holds of every list of steps of writing a column file.
+#![tactic(auto)]

@@ -102,7 +102,7 @@ fn below_zero(x: f64) -> f64
 }
 
 // 1 + x as (1 + f) * 2^k, with c for what 1 + x lost when it was rounded, relative to it.
-#[derive(Drop)]
+#[derive(Clone, Copy)]
 pub struct Parts {
     pub f: f64,
     pub k: f64,
@@ -127,7 +127,7 @@ fn reduced(x: f64) -> Parts
 }
 
 // f^2 / 2, s, s^2, and the terms of the series after the first in pairs.
-#[derive(Drop)]
+#[derive(Clone, Copy)]
 pub struct Series {
     pub half: f64,
     pub s: f64,

@@ -4,7 +4,7 @@ ghost use Rattle.elementary_tables.specs.ExpTable.{exp_row_of};
 
 // The rounded power as a bit pattern, so that its exponent can be raised, and what the rounding
 // left out, relative to it.
-#[derive(Drop)]
+#[derive(Clone, Copy)]
 pub struct ExpRow {
     pub head: u64,
     pub tail: f64,

@@ -1,13 +1,14 @@
 // Prints the error sum of each column of the file on standard input. A refused file has its line on
 // standard output; that a read or a write failed is said on standard error, and there alone: the language
 // has no exit status.
+#![tactic(auto)]
 ghost use Rattle.std.specs.Prelude.{◌≡◌, length};
 
 use column_errors::{INPUT_ROOM, TEXT_ROOM};
 use libc::{STDERR_FILENO, STDIN_FILENO, STDOUT_FILENO};
 
 // How many bytes came in, or that a read failed.
-#[derive(Drop)]
+#[derive(Clone, Copy)]
 enum Input {
     Read(usize),
     Failed,

@@ -1,5 +1,6 @@
 // The expected errors of a read: a table of error probabilities by quality, and sums over a column's
 // qualities.
+#![tactic(auto)]
 mod sums;
 mod table;
 

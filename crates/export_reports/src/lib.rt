@@ -1,5 +1,6 @@
 // The reports that a list of a builder's calls in bytes asks for: what a driver in C or Rust hands over
 // and gets back.
+#![tactic(auto)]
 mod bytes;
 mod report;
 mod runs;

@@ -9,7 +9,7 @@ use phred::PhredScore;
 use tie_rules::rule_of;
 
 // A builder, and how many of its events were refused; at most 255 are counted.
-#[derive(Drop)]
+#[derive(Clone, Copy)]
 pub struct Progress {
     pub builder: ConsensusBaseBuilder,
     pub refused: u8,

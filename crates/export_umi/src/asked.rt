@@ -9,7 +9,7 @@ use crate::codes::{
 use simple_umi::{SimpleConsensusCaller, SimpleUmiConsensusCaller};
 
 // Which function.
-#[derive(Drop)]
+#[derive(Clone, Copy)]
 pub enum Question {
     CallConsensus,
     Consensus,
@@ -17,7 +17,7 @@ pub enum Question {
 }
 
 // The code of its answer, how long the string in the buffer is (0 where it is refused), and the caller.
-#[derive(Drop)]
+#[derive(Clone, Copy)]
 pub struct Asked {
     pub code: u64,
     pub length: usize,

@@ -5,7 +5,7 @@ ghost use Rattle.export_umi_sets.specs.Places.{set_at};
 use lent_bytes::four_at;
 
 // Where a set starts and ends; or the bytes do not reach so far.
-#[derive(Drop)]
+#[derive(Clone, Copy)]
 pub enum SetPlace {
     At(usize, usize),
     Past,

@@ -14,14 +14,14 @@ use phred::PhredScore;
 use simple_umi::SimpleConsensusCaller;
 
 // The place after a set's answer, and the caller.
-#[derive(Drop)]
+#[derive(Clone, Copy)]
 pub struct Step {
     pub place: usize,
     pub caller: SimpleConsensusCaller,
 }
 
 // Where the answers end; or the sets are cut off.
-#[derive(Drop)]
+#[derive(Clone, Copy)]
 pub enum Walk {
     At(usize),
     Past,

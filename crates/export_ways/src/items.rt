@@ -10,7 +10,7 @@ use phred::PhredScore;
 use rate_tables::AdjustedProbabilityTables;
 use tie_rules::{TieRule, rule_of};
 
-#[derive(Drop)]
+#[derive(Clone, Copy)]
 pub enum Way {
     // Tables borrowed at each call.
     LentTables,

@@ -23,7 +23,7 @@ const MOST_COLUMNS: usize = 65536;
 const NO_WRITER: u64 = 13;
 
 // The writer of a number, or the number is no writer's.
-#[derive(Drop)]
+#[derive(Clone, Copy)]
 pub enum Known {
     Nobody,
     Of(Writer),

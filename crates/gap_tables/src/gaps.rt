@@ -51,7 +51,7 @@ pub fn consensus_error(gap: f64) -> f64
     e / (1.0 + e)
 }
 
-#[derive(Drop)]
+#[derive(Clone, Copy)]
 pub struct UnanimousGapTables {
     // The least gap at which each level is reached.
     pub thresholds: [f64; 94],

@@ -7,7 +7,7 @@ use crate::gaps::unanimous_quality_from_gap;
 use phred::LogProbability;
 
 // The ends of a halving: the level is reached at the upper and not at the lower.
-#[derive(Drop)]
+#[derive(Clone, Copy)]
 pub struct Ends {
     pub low: f64,
     pub high: f64,

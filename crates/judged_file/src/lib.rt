@@ -1,4 +1,5 @@
 // A column file judged whole, its strings included: what every output of a file begins with.
+#![tactic(auto)]
 ghost use Rattle.std.specs.Prelude.{◌≡◌, ◌≤◌};
 ghost use Rattle.refusals.specs.Refusals.{number_in};
 ghost use Rattle.column_file.specs.Reading.{read_file};
@@ -11,13 +12,13 @@ use simple_umi::{FlaggedAnswer, SimpleUmiConsensusCaller};
 
 // Refused; or where the file's parts are, how long the consensus of its strings is, and whether a string
 // differs from it.
-#[derive(Drop)]
+#[derive(Clone, Copy)]
 pub enum Judgement {
     Refused(Refusal),
     Accepted(Places, usize, bool),
 }
 
-#[derive(Drop)]
+#[derive(Clone, Copy)]
 pub struct JudgedFile {
     pub judgement: Judgement,
     // The consensus, and 0 behind it; of a refused file all are 0.

@@ -5,13 +5,13 @@ ghost use Rattle.lane_calls.specs.Calls.{called as calledOf, no_call};
 use phred::PhredScore;
 
 // A base with its quality.
-#[derive(Drop)]
+#[derive(Clone, Copy)]
 pub struct Call {
     pub base: u8,
     pub qual: PhredScore,
 }
 
-#[derive(Drop)]
+#[derive(Clone, Copy)]
 pub enum Reply {
     // The shortcut's own call.
     Replied(Call),

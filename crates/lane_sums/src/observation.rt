@@ -4,14 +4,14 @@ ghost use Rattle.tie_rules.specs.Lanes.{lanes, lane};
 ghost use Rattle.lane_sums.specs.Observation.{moved_by, sum_at, moved_lanes, value_of, count_of};
 
 // A lane's running sum and its compensation.
-#[derive(Drop)]
+#[derive(Clone, Copy)]
 pub struct Sum {
     pub lane: f64,
     pub compensation: f64,
 }
 
 // Those of the four lanes.
-#[derive(Drop)]
+#[derive(Clone, Copy)]
 pub struct LaneSums {
     pub likelihoods: [f64; 4],
     pub compensations: [f64; 4],

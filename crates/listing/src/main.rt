@@ -1,12 +1,13 @@
 // Lists the column file on standard input. A refused file has its line on standard output; that a read
 // or a write failed is said on standard error, and there alone: the language has no exit status.
+#![tactic(auto)]
 ghost use Rattle.std.specs.Prelude.{◌≡◌, length};
 
 use libc::{STDERR_FILENO, STDIN_FILENO, STDOUT_FILENO};
 use stream_listing::{INPUT_ROOM, TEXT_ROOM};
 
 // How many bytes came in, or that a read failed.
-#[derive(Drop)]
+#[derive(Clone, Copy)]
 enum Input {
     Read(usize),
     Failed,

@@ -7,7 +7,7 @@ ghost use Rattle.phred.specs.Phred.{ln_sum_exp_array};
 use crate::{LogProbability, ln_sum_exp_f64};
 
 // Two lanes as a sum takes them: the lowest, the one to start from, and the other.
-#[derive(Drop)]
+#[derive(Clone, Copy)]
 pub struct FirstTwo {
     pub least: f64,
     pub start: f64,
@@ -15,7 +15,7 @@ pub struct FirstTwo {
 }
 
 // Three lanes, likewise.
-#[derive(Drop)]
+#[derive(Clone, Copy)]
 pub struct FirstThree {
     pub least: f64,
     pub start: f64,

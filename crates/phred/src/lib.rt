@@ -1,6 +1,7 @@
 // Phred levels and natural logarithms of probabilities: phred.rs, function by function, in its order.
 // The equations (7) and (10) that it names are those of the note "Accurately computing
 // log(1 - exp(-|a|))" by Mächler.
+#![tactic(auto)]
 ghost use Rattle.std.specs.Prelude.{◌≡◌, ◌<◌, length};
 ghost use Rattle.phred.specs.Phred.{phred_to_ln_error_prob, phred_to_ln_correct_prob, clamped, ln_prob_to_phred, log1pexp_of, ln_one_minus_exp, ln_a_minus_b, two_trials, ln_error_prob_two_trials, ln_sum_exp, all_ln_zero, lower_of, start_lane, ln_sum_exp_fold, ln_sum_exp_from, ln_sum_exp_array, ln_normalize, ln_not};
 
@@ -39,11 +40,11 @@ const PHRED_PRECISION: f64 = 0.001;
 const MAX_PHRED_AS_LN_ERROR: f64 = -(MAX_PHRED as f64) * LN_10 / 10.0;
 
 // A level. A type of its own, so that none can stand where a logarithm is expected.
-#[derive(Drop)]
+#[derive(Clone, Copy)]
 pub struct PhredScore(pub u8);
 
 // The natural logarithm of a probability.
-#[derive(Drop)]
+#[derive(Clone, Copy)]
 pub struct LogProbability(pub f64);
 
 // The logarithm of the error at a level: 10^(-q/10).
@@ -223,7 +224,7 @@ fn all_ln_zero(values: &[f64]) -> bool
 }
 
 // The lowest lane so far, by its place and its value.
-#[derive(Drop)]
+#[derive(Clone, Copy)]
 pub struct Lowest {
     pub place: usize,
     pub value: f64,

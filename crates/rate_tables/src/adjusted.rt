@@ -6,7 +6,7 @@ ghost use Rattle.rate_tables.specs.Adjusted.{adjusted_error, correct_at, error_p
 
 use phred::{LogProbability, PhredScore};
 
-#[derive(Drop)]
+#[derive(Clone, Copy)]
 pub struct AdjustedProbabilityTables {
     // The logarithm of being right, for each quality.
     pub correct: [f64; 94],
@@ -15,7 +15,7 @@ pub struct AdjustedProbabilityTables {
 }
 
 // The entries of one quality.
-#[derive(Drop)]
+#[derive(Clone, Copy)]
 pub struct AdjustedEntry {
     pub correct: f64,
     pub error_per_alt: f64,

@@ -1,11 +1,12 @@
 // All numbered conditions (SCOPE 7) under which something is refused: a column file or a part of one, a string set, a base, a step of
 // writing.
+#![tactic(auto)]
 ghost use Rattle.std.specs.Prelude.{◌≡◌};
 ghost use Rattle.refusals.specs.Refusals.{number_of, verdict_number, first_number};
 ghost use Rattle.refusals.specs.Result.{or_else};
 
 // In the order of their numbers, each with the definition that says where it holds.
-#[derive(Drop)]
+#[derive(Clone, Copy)]
 pub enum Refusal {
     // 1, over 65,536 bytes: `lone` in string_set/specs/Readers.
     FileTooLong,
@@ -36,7 +37,7 @@ pub enum Refusal {
 }
 
 // What a test says.
-#[derive(Drop)]
+#[derive(Clone, Copy)]
 pub enum Verdict {
     Sound,
     Refused(Refusal),

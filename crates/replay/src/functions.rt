@@ -9,7 +9,7 @@ ghost use Rattle.replay.specs.Functions.{longest_line, kind_of, length_of, argum
 pub const LONGEST_LINE: usize = 1292;
 
 // By their arguments.
-#[derive(Drop)]
+#[derive(Clone, Copy)]
 pub enum Function {
     OfLevel(LevelFunction),
     OfNumber(NumberFunction),
@@ -20,13 +20,13 @@ pub enum Function {
     LnProbToPhred,
 }
 
-#[derive(Drop)]
+#[derive(Clone, Copy)]
 pub enum LevelFunction {
     PhredToLnErrorProb,
     PhredToLnCorrectProb,
 }
 
-#[derive(Drop)]
+#[derive(Clone, Copy)]
 pub enum NumberFunction {
     Exp,
     Ln,
@@ -37,7 +37,7 @@ pub enum NumberFunction {
     LnNot,
 }
 
-#[derive(Drop)]
+#[derive(Clone, Copy)]
 pub enum PairFunction {
     LnAMinusB,
     LnErrorProbTwoTrials,
@@ -45,7 +45,7 @@ pub enum PairFunction {
     LnNormalize,
 }
 
-#[derive(Drop)]
+#[derive(Clone, Copy)]
 pub enum LineKind {
     // The function's arguments and its result.
     FunctionLine(Function),

@@ -3,7 +3,7 @@ ghost use Rattle.std.specs.Prelude.{◌≡◌};
 ghost use Rattle.replay.specs.Hex.{digit_of, hex_of};
 
 // The number that digits write, where all of them are digits and there are at most 16.
-#[derive(Drop)]
+#[derive(Clone, Copy)]
 pub enum MaybeNumber {
     Number(u64),
     NoNumber,

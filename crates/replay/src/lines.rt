@@ -9,7 +9,7 @@ use crate::{answers, builders, functions, hex, listings};
 // No line has more numbers.
 pub const NUMBERS: usize = 5;
 
-#[derive(Drop)]
+#[derive(Clone, Copy)]
 pub enum LineVerdict {
     // No line is left.
     End,
@@ -56,7 +56,7 @@ fn answer_line(letter: u8, function: Function, line: &[u8]) -> LineVerdict
 }
 
 // The numbers of a line, and zeros after them, where the line is in the form.
-#[derive(Drop)]
+#[derive(Clone, Copy)]
 pub struct Fields {
     pub formed: bool,
     pub numbers: [u64; NUMBERS],

@@ -5,7 +5,7 @@ ghost use Rattle.simple_consensus.specs.Answers.{unflagged_of};
 use refusals::Refusal;
 use umi_groups::FlaggedAnswer;
 
-#[derive(Drop)]
+#[derive(Clone, Copy)]
 pub enum Answer {
     Refused(Refusal),
     Given(usize),

@@ -14,7 +14,7 @@ use refusals::Refusal;
 use string_set::{Reading, read_places};
 
 // Keeps no tables: those of its rates are meant.
-#[derive(Drop)]
+#[derive(Clone, Copy)]
 pub struct SimpleConsensusCaller {
     pub builder: ConsensusBaseBuilder,
     pub error_rate_pre_labeling: PhredScore,
@@ -24,7 +24,7 @@ pub struct SimpleConsensusCaller {
 }
 
 // The caller, unchanged where it refuses, and its answer.
-#[derive(Drop)]
+#[derive(Clone, Copy)]
 pub struct Consensus {
     pub caller: SimpleConsensusCaller,
     pub answer: Answer,

@@ -12,7 +12,7 @@ use refusals::Refusal;
 use umi_groups::{FlaggedAnswer, alike, consensus_group};
 
 // The caller, unchanged where it refuses, and its answer.
-#[derive(Drop)]
+#[derive(Clone, Copy)]
 pub struct GroupConsensus {
     pub caller: SimpleConsensusCaller,
     pub answer: FlaggedAnswer,

@@ -3,7 +3,7 @@ use refusals::Refusal;
 
 // A refusal, or the length of the string in the buffer, and whether a string of /A and of /B differs from its
 // strand's consensus.
-#[derive(Drop)]
+#[derive(Clone, Copy)]
 pub enum DuplexAnswer {
     Refused(Refusal),
     Given(usize, bool, bool),

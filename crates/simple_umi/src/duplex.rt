@@ -21,7 +21,7 @@ use widths::wide;
 
 // What both strands give: the caller afterwards, which means something where neither is refused, and the
 // answer.
-#[derive(Drop)]
+#[derive(Clone, Copy)]
 pub struct Pair {
     pub caller: SimpleConsensusCaller,
     pub answer: DuplexAnswer,

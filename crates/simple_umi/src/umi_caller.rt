@@ -15,19 +15,19 @@ use simple_consensus::{GroupConsensus, SimpleConsensusCaller, group_consensus};
 use string_set::{Reading, read_places};
 use umi_groups::FlaggedAnswer;
 
-#[derive(Drop)]
+#[derive(Clone, Copy)]
 pub struct SimpleUmiConsensusCaller {
     pub caller: SimpleConsensusCaller,
 }
 
 // The caller, unchanged where it refuses, and its answer.
-#[derive(Drop)]
+#[derive(Clone, Copy)]
 pub struct FlaggedConsensus {
     pub caller: SimpleUmiConsensusCaller,
     pub answer: FlaggedAnswer,
 }
 
-#[derive(Drop)]
+#[derive(Clone, Copy)]
 pub struct DuplexConsensus {
     pub caller: SimpleUmiConsensusCaller,
     pub answer: DuplexAnswer,

@@ -1,10 +1,11 @@
 // What stands in for a quality of 255, which SAM calls absent.
+#![tactic(auto)]
 ghost use Rattle.std.specs.Prelude.{◌≡◌};
 ghost use Rattle.stand_in.specs.StandIns.{absent_as};
 
 use phred::PhredScore;
 
-#[derive(Drop)]
+#[derive(Clone, Copy)]
 pub enum StandIn {
     NotGiven,
     // The quality that 255 is added as.

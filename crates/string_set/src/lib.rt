@@ -1,4 +1,5 @@
 // A string set in its file form: a count byte, then each string after its length byte.
+#![tactic(auto)]
 ghost use Rattle.std.specs.Prelude.{◌≡◌, ◌≤◌, length, replicate};
 ghost use Rattle.refusals.specs.Refusals.{number_in};
 ghost use Rattle.string_set.specs.StringSet.{read_set};
@@ -11,13 +12,13 @@ use widths::wide;
 pub const LONGEST_FILE: usize = 65536;
 
 // Refused, or how many strings there are.
-#[derive(Drop)]
+#[derive(Clone, Copy)]
 pub enum Reading {
     Refused(Refusal),
     Strings(usize),
 }
 
-#[derive(Drop)]
+#[derive(Clone, Copy)]
 pub struct StringSet {
     pub reading: Reading,
     // Where each string's length byte is; its bytes follow. From the count on, and in a refused set, they

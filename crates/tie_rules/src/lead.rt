@@ -8,7 +8,7 @@ use crate::lane::NO_LANE;
 use crate::tie_rule::FGBIO_TIE_EPSILON;
 
 // The highest value so far and its lane, or NO_LANE where no lane leads.
-#[derive(Drop)]
+#[derive(Clone, Copy)]
 pub struct Lead {
     pub best: f64,
     pub at: usize,

@@ -8,7 +8,7 @@ use crate::lead::fgbio_lead;
 
 pub const FGBIO_TIE_EPSILON: f64 = float::EPSILON;
 
-#[derive(Drop)]
+#[derive(Clone, Copy)]
 pub enum TieRule {
     // A tie is a separation of at most 4 units in the last place.
     UlpRelative,
@@ -27,7 +27,7 @@ pub fn rule_of(n: u8) -> TieRule
 }
 
 // A scan of the lanes: whether one was taken, the running maximum, and its lane.
-#[derive(Drop)]
+#[derive(Clone, Copy)]
 pub struct Scan {
     pub seen: bool,
     pub best: f64,

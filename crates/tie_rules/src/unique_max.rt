@@ -8,7 +8,7 @@ use crate::lane::NO_LANE;
 use crate::tie_rule::{TieRule, fgbio_scan, max_lane, max_lane_with};
 
 // The source's Option of a lane.
-#[derive(Drop)]
+#[derive(Clone, Copy)]
 pub enum UniqueMax {
     // The lane that the rule names.
     Lane(usize),

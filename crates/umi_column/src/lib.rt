@@ -1,4 +1,5 @@
 // One column of a family of UMI strings: the bytes that they have at one place.
+#![tactic(auto)]
 mod calls;
 mod dna;
 mod sums;

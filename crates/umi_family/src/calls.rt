@@ -11,7 +11,7 @@ use rate_tables::AdjustedEntry;
 use umi_rows::fit;
 
 // Whether a string differs from the text, and the builder after the last column.
-#[derive(Drop)]
+#[derive(Clone, Copy)]
 pub struct Called {
     pub had_errors: bool,
     pub builder: ConsensusBaseBuilder,

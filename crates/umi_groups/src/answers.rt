@@ -7,13 +7,13 @@ use base_builder::ConsensusBaseBuilder;
 use refusals::Refusal;
 
 // A refusal, or the length of the string in the buffer and whether a string differs from it.
-#[derive(Drop)]
+#[derive(Clone, Copy)]
 pub enum FlaggedAnswer {
     Refused(Refusal),
     Given(usize, bool),
 }
 
-#[derive(Drop)]
+#[derive(Clone, Copy)]
 pub struct Group {
     pub answer: FlaggedAnswer,
     // As it was where the group is refused.
