@@ -1,0 +1,24 @@
+-- `print`: a file that is refused, and one that is not. Assumes nothing.
+use native.Mathlib.Omega.{arith}
+use Rattle.column_file.specs.Reading.{read_file}
+use Rattle.column_file.proofs.Files.{few_columns}
+use Rattle.column_file.proofs.Readings.{FileAt, read-refused, read_accepted}
+use Rattle.column_errors.proofs.Files.{sums_refused, sums_there}
+use Rattle.column_errors.proofs.sums.print.Goals as goal
+
+-- the file was accepted
+given : (c : tie.After-reading2) → FileAt (read_file c.args.file.now) c.in-Accepted.places
+given c =
+    read_accepted _ c.read-reading.result c.read-reading.ensures.reading _ c.in-Accepted.is
+
+pub print_sums-requires : goal.print_sums-requires
+print_sums-requires c = omega (arith, few_columns _ _ (given c))
+
+pub returns-in-Refused : goal.returns-in-Refused
+returns-in-Refused c =
+    let s = c.args.file.now in
+    let e = sums_refused s _ (read-refused (read_file s) c.read-reading.result c.read-reading.ensures.reading _ c.in-Refused.is) in let said = rw e c.print_refusal.ensures in record { reply = said.0; lent = said.1 }
+
+pub returns-in-Accepted : goal.returns-in-Accepted
+returns-in-Accepted c =
+    let s = c.args.file.now in let said = rw (sums_there s _ (given c)) c.print_sums.ensures in record { reply = said.0; lent = said.1 }

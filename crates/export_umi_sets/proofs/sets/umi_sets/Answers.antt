@@ -1,0 +1,23 @@
+-- `umi_sets`: each arm is a question to the new caller, and the last gives 0. Assumes nothing.
+use mathlib.Core.Path.{refl}
+use mathlib.Core.List.{[]}
+use borrow.Author.Tests.{ne_eqb}
+use Rattle.export_reports.proofs.Buffers.{none_replied, none_written}
+use Rattle.export_umi_sets.specs.Answers.{umiSetsBytes}
+use Rattle.export_umi_sets.proofs.sets.umi_sets.Goals as goal
+
+pub returns-in-0 : goal.returns-in-0
+unfolding umiSetsBytes
+returns-in-0 c = let said = rw (c.in-0.is, ← c.new-caller.ensures) c.answer_sets.ensures in record { reply = said.0; lent = said.1 }
+
+pub returns-in-1 : goal.returns-in-1
+unfolding umiSetsBytes
+returns-in-1 c = let said = rw (c.in-1.is, ← c.new-caller.ensures) c.answer_sets-in-1.ensures in record { reply = said.0; lent = said.1 }
+
+pub returns-in-3 : goal.returns-in-3
+unfolding umiSetsBytes
+returns-in-3 c = let said = rw (c.in-3.is, ← c.new-caller.ensures) c.answer_sets-in-3.ensures in record { reply = said.0; lent = said.1 }
+
+pub returns-in_default : goal.returns-in_default
+unfolding umiSetsBytes
+returns-in_default c = let said = rw (ne_eqb _ 0 c.in_default.rest.0.0.1, ne_eqb _ 1 c.in_default.rest.0.1, ne_eqb _ 3 c.in_default.rest.1) (none_replied [] _ refl, none_written [] _ refl) in record { reply = said.0; lent = said.1 }

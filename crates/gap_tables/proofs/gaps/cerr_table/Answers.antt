@@ -1,0 +1,18 @@
+-- `cerr_table`: the places passed hold what the rule says. Assumes nothing.
+use native.Mathlib.Nat.{not-suc-le-zero}
+use mathlib.Core.Path.{refl}
+use Prim.Native.Nat.{◌-◌}
+use native.Mathlib.Omega.{arith}
+use lib.ListN.{length-set}
+use Rattle.words.proofs.Listed.{filled_more, filled_all}
+use Rattle.gap_tables.proofs.gaps.cerr_table.Goals as goal
+
+pub loop-q-init : goal.loop-q-init
+loop-q-init c = (refl, omega arith, (λ k h. absurd (not-suc-le-zero h)))
+
+pub loop-q-preserved : goal.loop-q-preserved
+loop-q-preserved c =
+    (simp length-set c.loop-q.invariant.0, omega arith, filled_more _ c.loop-q.table c.loop-q.q c.cerr_at.result (omega arith) c.cerr_at.ensures c.loop-q.invariant.2)
+
+pub returns : goal.returns
+returns c = filled_all _ c.loop-q.table 94 c.loop-q.q c.loop-q.invariant.0 c.loop-q-test.false c.loop-q.invariant.2

@@ -1,0 +1,9 @@
+-- `field`: the space, then the digits. Assumes nothing.
+use Rattle.std.proofs.Common.{eq-eqb, ne_eqb}
+use Rattle.replay.proofs.lines.field.Goals as goal
+
+pub returns-then-bytes-ne32 : goal.returns-then-bytes-ne32
+returns-then-bytes-ne32 c = search ne_eqb
+
+pub returns : goal.returns
+returns c = search eq-eqb

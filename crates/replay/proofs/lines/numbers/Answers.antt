@@ -1,0 +1,36 @@
+-- `numbers`: the numbers so far, after those of the fields that are left, are the numbers of all. The measure is how many are left. Assumes nothing.
+use Rattle.std.proofs.Common.{◌≡◌, ◌+◌, ◌-◌, take, drop, sym, refl, ◌∙◌, arith, length-set, eq-eqb, ne_eqb}
+use Rattle.replay.specs.Lines.{field_of, field_start, fields_from}
+use Rattle.replay.proofs.Numbers.{goes_on, stops}
+use Rattle.replay.proofs.lines.numbers.Goals as goal
+
+-- the field before those that are read
+field_is : (c : tie.After-field invariant-loop decreases-loop) →
+    c.field.result ≡ field_of (take 17 (drop (field_start (c.loop-left.left - 1)) c.args.line.now))
+field_is c =
+    let start = field_start (c.loop-left.left - 1) in
+    let h : start + 17 - start ≡ 17 = omega arith in
+    rw h at c.field.ensures
+
+pub returns-in_default : goal.returns-in_default
+returns-in_default c =
+    c.no_fields-in_default.ensures ∙ sym (stops _ c.loop-left.numbers (c.loop-left.left - 1) (omega arith) (sym (field_is c) ∙ c.in_default.is)) ∙ c.loop-left.invariant.2
+
+pub loop-left-preserved : goal.loop-left-preserved
+loop-left-preserved c =
+    (omega arith, simp length-set c.loop-left.invariant.1, sym (goes_on _ c.loop-left.numbers (c.loop-left.left - 1) (omega arith) (sym (field_is c) ∙ c.in-Number.is)) ∙ c.loop-left.invariant.2)
+
+pub returns : goal.returns
+unfolding fields_from
+returns c =
+    let z : c.loop-left.left ≡ 0 = omega arith in
+    rw z at c.loop-left.invariant.2
+
+pub returns-then-line-end : goal.returns-then-line-end
+returns-then-line-end c = search ne_eqb
+
+pub returns-then-line-end-ne10 : goal.returns-then-line-end-ne10
+returns-then-line-end-ne10 c = search (eq-eqb, ne_eqb)
+
+pub loop-left-init : goal.loop-left-init
+loop-left-init c = (omega arith, refl, search eq-eqb)

@@ -1,0 +1,22 @@
+-- `strand_consensus`: the group of the strings that were kept; a text of 255 bytes holds any answer. Assumes nothing.
+use mathlib.Core.Path.{◌≡◌, sym, ◌∙◌, ap}
+use native.Mathlib.Omega.{arith}
+use lib.ListN.{take}
+use lib.Seq.{length-take-le}
+use Rattle.umi_groups.proofs.Room.{room_fits}
+use Rattle.simple_consensus.specs.Consensus.{consensus_of}
+use Rattle.simple_consensus.specs.Places.{strings_at, group_by}
+use Rattle.simple_consensus.proofs.Groups.{group_said}
+use Rattle.simple_umi.specs.Duplex.{strand_of}
+use Rattle.simple_umi.proofs.duplex.strand_consensus.Goals as goal
+
+pub slice_bounds-group_consensus-end : goal.slice_bounds-group_consensus-end
+slice_bounds-group_consensus-end c =
+    sym (length-take-le c.strand_places-n.result c.strand_places-n.new.1.1.1.0 c.strand_places-n.ensures.inside.0)
+
+pub returns : goal.returns
+returns c =
+    let places = take c.strand_places-n.result c.strand_places-n.new.1.1.1.0 in
+    let said : group_by c.args.caller 2 c.args.set.now places ≡ consensus_of c.args.caller (strand_of c.args.letter (strings_at 0 c.args.set.now c.args.places.now)) =
+    group_said c.args.caller 2 c.args.set.now places c.strand_places-n.ensures.inside.1 ∙ ap (consensus_of c.args.caller) c.strand_places-n.ensures.strings in
+    let fits = room_fits c.args.text.now (group_by c.args.caller 2 c.args.set.now places) (omega (arith, c.group_consensus.ensures.few, c.requires.0)) in let said = rw (← said) (rw fits at c.group_consensus.ensures) in record { group = said.0; lent = said.1.0; few = said.1.1 }

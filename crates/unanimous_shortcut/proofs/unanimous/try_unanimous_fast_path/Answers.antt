@@ -1,0 +1,10 @@
+-- `try_unanimous_fast_path`: the shortcut for the lane that alone was observed. Assumes nothing.
+use Rattle.unanimous_shortcut.specs.Unanimous.{unanimous_reply}
+use Rattle.unanimous_shortcut.proofs.unanimous.try_unanimous_fast_path.Goals as goal
+
+}
+use Rattle.unanimous_shortcut.proofs.unanimous.try_unanimous_fast_path.Tie as tie
+
+pub returns : goal.returns
+unfolding unanimous_reply
+returns c = rw (← c.sole_lane-i.ensures) c.reply_for_lane.ensures
