@@ -109,14 +109,15 @@ def take(fields, path):
 
 class Turner:
     def __init__(self, fn, place, said):
-        self.fn, self.said = fn, said
+        self.fn, self.said, self.place = fn, said, place
         self.steps, self.arms = fn.steps(place)
         self.lets = {}
+        self.root = "c"
 
     def resolve(self, root, comps):
         """The path from c, with no 'before', or None where the root is something else."""
         comps = [c for c in comps if c != "before"]
-        if root == "c":
+        if root == self.root:
             return comps
         if root in self.lets:
             return self.lets[root] + comps
@@ -126,6 +127,8 @@ class Turner:
         if not comps:
             return "c"
         step, rest = norm(comps[0]), comps[1:]
+        if step in ("well_formed", "type_inv"):
+            return ".".join(["c", step, *rest])
         if comps[0] in ("args", "ranges", "type_inv", "well_formed", "lifetimes"):
             return ".".join(["c", *comps])
         if comps[0] == "requires":
@@ -155,7 +158,7 @@ class Turner:
     def body(self, text):
         # lets that are paths from c
         out, at = [], 0
-        let = re.compile(r"let (" + NAME + r") = (c|" + NAME + r")((?:\.(?:[A-Za-z_][\w'-]*|\d+))*) in[ \n]?[ ]*")
+        let = re.compile(r"let (" + NAME + r") = (" + NAME + r")((?:\.(?:[A-Za-z_][\w'-]*|\d+))*) in[ \n]?[ ]*")
         while True:
             m = let.search(text, at)
             if not m:
@@ -193,6 +196,14 @@ class Turner:
         return PATH.sub(one, text)
 
 
+def plain_tests(text):
+    """A test of a negated call says by itself today what the lemma made of it."""
+    return re.sub(r"\(?not[-_](?:true|false) _ (c\.if-not-[\w-]+\.(?:true|false))\)?", lambda m: m.group(1) if m.group(0).startswith("(") == m.group(0).endswith(")") else m.group(0), text)
+
+
+HELPER = re.compile(r"^(?:abbrev |unfoldable )?(?:pub )?(" + NAME + r") : (?:\((" + NAME + r") : tie\.(\S+?)((?: [^()]*)?)\)|tie\.(\S+)((?: invariant-\S+| decreases-\S+)*))\s*→\s*(.*)$", re.S)
+
+
 def split_pair(expr):
     """The parts of a parenthesized tuple that is the whole expression, or None."""
     e = expr.strip()
@@ -211,7 +222,8 @@ def split_pair(expr):
     if not cuts:
         return None
     cuts = [0, *cuts, len(e) - 1]
-    return [e[a + 1: b].strip() for a, b in zip(cuts, cuts[1:])]
+    found = [e[a + 1: b].strip() for a, b in zip(cuts, cuts[1:])]
+    return found[:-1] if not found[-1] else found
 
 
 def last_in(body):
@@ -345,8 +357,77 @@ def convert(root, crate, key, facts, said):
         loop_of[norm(old)] = (new, variables)
     changed = facts["changed"]
     inv_out, ans_out = [], []
+    renamed, helpers = {}, []
+    for comments, b in decls:
+        m = re.match(r"(?:pub )?(" + NAME + r") : tie\.Need-(\S+)(.*)$", b[0])
+        if m and b is not spec:
+            name, need = m.group(1), m.group(2)
+            new = by_place.get(name)
+            cands = [n for o, n in facts["needs"] if norm(o) == norm(need) or norm(n) == norm(need) or norm(o) == norm(name)]
+            if new is None and len(cands) == 1:
+                new = cands[0]
+            if new:
+                renamed[name] = new
+
+    def lets_for(text, turner, done=()):
+        """The helpers that a text cites, as lets in their order."""
+        needed = []
+        for name, typ, var1, body, var2, unfold in helpers:
+            if name not in done and re.search(r"(?<![\w.'-])" + re.escape(name) + r"(?![\w'-])", text):
+                needed.append(name)
+        more = True
+        while more:
+            more = False
+            for h in helpers:
+                if h[0] in needed:
+                    for g in helpers:
+                        if g[0] not in needed and re.search(r"(?<![\w.'-])" + re.escape(g[0]) + r"(?![\w'-])", h[1] + " " + h[3]):
+                            needed.append(g[0])
+                            more = True
+        out, unfoldings = "", []
+        for name, typ, var1, body, var2, unfold in helpers:
+            if name not in needed:
+                continue
+            t = Turner(fn, turner.place, here)
+            t.root = var1
+            ty = strip_uses(t.body(typ)) if var1 else typ
+            t = Turner(fn, turner.place, here)
+            t.root = var2
+            bo = strip_uses(plain_tests(t.body(body)))
+            out += f"\n    let {name} : {' '.join(ty.split())} = {' '.join(bo.split())} in"
+            unfoldings += unfold
+        return out, unfoldings
+
+    def strip_uses(text):
+        for h in helpers:
+            text = re.sub(r"\((" + re.escape(h[0]) + r") (?:c|k|m|e|f)\)(?![\w'-])", r"\1", text)
+            text = re.sub(r"(?<![\w.'-])(" + re.escape(h[0]) + r") (?:c|k|m|e|f)(?![\w'.-])", r"\1", text)
+        return text
+
+    for comments, b in decls:
+        if b is spec or "tie." not in "\n".join(b):
+            continue
+        m = HELPER.match("\n".join(b))
+        if not m or "tie.Need" in b[0] or re.match(r"(?:abbrev )?(?:pub )?\S+ : tie\.(invariant|decreases)", b[0]):
+            continue
+        name = m.group(1)
+        k = next((i for i, l in enumerate(b) if i and re.match(re.escape(name) + r"(\s|$)", l)), None)
+        if k is None:
+            continue
+        unfold = [l for l in b[:k] if l.startswith("unfolding")]
+        sig = "\n".join(l for l in b[:k] if not l.startswith("unfolding"))
+        m = HELPER.match(sig)
+        eq = re.match(re.escape(name) + r" (\S+) =(.*)$", "\n".join(b[k:]), re.S)
+        if not eq or "tie." in m.group(7):
+            continue
+        helpers.append((name, m.group(7).strip(), m.group(2), eq.group(2).strip(), eq.group(1), unfold))
+    helped = {h[0] for h in helpers}
+
     for comments, b in decls:
         if b is spec:
+            continue
+        m = re.match(r"(?:abbrev )?(?:pub )?(" + NAME + r") :", b[0])
+        if m and m.group(1) in helped and "tie." in "\n".join(b) and "tie.Need" not in b[0]:
             continue
         m = re.match(r"(?:abbrev )?(?:pub )?(" + NAME + r") : tie\.(invariant|decreases)-(.*)$", b[0])
         if m:
@@ -391,7 +472,16 @@ def convert(root, crate, key, facts, said):
                 continue
             rest = eq.group(2)
             t = Turner(fn, fn.place.get(new), here)
-            rest = t.body(rest)
+            t.root = eq.group(1).split()[0] if eq.group(1).split() else "c"
+            rest = strip_uses(plain_tests(t.body(rest)))
+            for o, n in renamed.items():
+                rest = re.sub(r"(?<![\w.'-])" + re.escape(o) + r"(?![\w'-])", n, rest)
+            lets, unfoldings = lets_for(rest, t)
+            if lets:
+                rest = lets + ("\n    " + rest.strip() if not rest.startswith("\n") else rest)
+                for u in unfoldings:
+                    if u not in middle:
+                        middle = [*middle, u]
             asked = facts["asked"].get(fn.old.get(new, ""), None)
             if asked and len(asked) > 1:
                 rest = as_record(rest, asked)
@@ -440,7 +530,9 @@ def convert(root, crate, key, facts, said):
                 for i in items:
                     word = i.split(" as ")[-1]
                     core = word.replace("◌", "")
-                    if any(core and (w == core or w.startswith(core + ".") or ("◌" in word and core in w)) for w in used) or re.search(r"(?<![\w'-])" + re.escape(core) + r"(?![\w'-])", body):
+                    if word.count("◌") > 1 and all(re.search(r"(?<![\w'-])" + re.escape(q) + r"(?![\w'-])" if q[0].isalpha() else re.escape(q), body) for q in word.split("◌") if q):
+                        kept.append(i)
+                    elif any(core and (w == core or w.startswith(core + ".") or ("◌" in word and core in w)) for w in used) or re.search(r"(?<![\w'-])" + re.escape(core) + r"(?![\w'-])", body):
                         kept.append(i)
                 if kept:
                     keep.append(f"use {m.group(1)}.{{{', '.join(kept)}}}")

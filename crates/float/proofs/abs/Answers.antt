@@ -13,7 +13,7 @@ pub float_to_bits-result : goal.float_to_bits-result
 float_to_bits-result c = number _ c.if-x.false
 
 pub float_from_bits-result : goal.float_from_bits-result
-float_from_bits-result c = rw (nan_bits_is, abs_bits _ c.well-formed.0.1 c.if-x.false, abs_nan) (number _ c.if-x.false)
+float_from_bits-result c = rw (nan_bits_is, abs_bits _ c.well_formed.0.1 c.if-x.false, abs_nan) (number _ c.if-x.false)
 
 pub returns : goal.returns
-returns c = abs_bits _ c.well-formed.0.1 c.if-x.false
+returns c = abs_bits _ c.well_formed.0.1 c.if-x.false

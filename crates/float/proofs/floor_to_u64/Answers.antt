@@ -7,7 +7,7 @@ use Rattle.float.proofs.floor_to_u64.Goals as goal
 
 pub truncating_f64_to_u64-requires : goal.truncating_f64_to_u64-requires
 unfolding of_bits lt
-truncating_f64_to_u64-requires c = record { lower_bound = rw (lt_trans (fin true 1 (pos 0)) (fin false 0 (pos 0)) c.args.x refl c.if-x.true) tt; upper_bound = (rw c.if-x-2.true tt, ) }
+truncating_f64_to_u64-requires c = record { lower_bound = rw (lt_trans (fin true 1 (pos 0)) (fin false 0 (pos 0)) c.args.x refl c.if-x.true) tt; upper_bound = rw c.if-x-2.true tt }
 
 pub returns-then-x-2 : goal.returns-then-x-2
 returns-then-x-2 c = c.truncating_f64_to_u64.ensures ∙ sym (floor_unsigned _)

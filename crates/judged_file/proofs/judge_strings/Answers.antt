@@ -9,29 +9,24 @@ use Rattle.column_file.proofs.Files.{strings_inside}
 use Rattle.judged_file.proofs.Judged.{Answered, answer_said, answer_refused, answer_given, given_short}
 use Rattle.judged_file.proofs.judge_strings.Goals as goal
 
--- the file that was read
-file-at : (c : tie.Start) → FileAt (read_file c.args.file.now) c.args.places
-file-at c =
-    let t = read_file c.args.file.now in
-    read_accepted t (reading_of t) refl c.args.places c.requires
-
--- what the caller answers to its strings, and leaves in its buffer
-answered : (c : tie.After-consensus)
-    → Answered c.args.file.now c.args.places c.consensus-consensus.new.1.1.0 c.consensus-consensus.result.answer
-answered c =
-    let s = c.args.file.now in
-    answer_said s c.args.places (file-at c) _ _ (part_to_end s c.args.places.strings) c.default.ensures (c.consensus-consensus.ensures.fits (omega arith)) _ _ c.consensus-consensus.ensures.answer c.consensus-consensus.ensures.lent
-
 pub slice_bounds-consensus-count : goal.slice_bounds-consensus-count
-slice_bounds-consensus-count c = strings_inside c.args.file.now c.args.places (file-at c)
+slice_bounds-consensus-count c =
+    let file-at : FileAt (read_file c.args.file.now) c.args.places = let t = read_file c.args.file.now in read_accepted t (reading_of t) refl c.args.places c.requires in
+    strings_inside c.args.file.now c.args.places file-at
 
 pub slice_bounds-consensus-start : goal.slice_bounds-consensus-start
-slice_bounds-consensus-start c = strings_inside c.args.file.now c.args.places (file-at c)
+slice_bounds-consensus-start c =
+    let file-at : FileAt (read_file c.args.file.now) c.args.places = let t = read_file c.args.file.now in read_accepted t (reading_of t) refl c.args.places c.requires in
+    strings_inside c.args.file.now c.args.places file-at
 
 pub returns-in-Refused : goal.returns-in-Refused
 returns-in-Refused c =
-    let said = answer_refused _ _ _ _ (answered c) _ c.in-Refused.is in record { judgement = said.0; text = said.1; short = omega arith }
+    let file-at : FileAt (read_file c.args.file.now) c.args.places = let t = read_file c.args.file.now in read_accepted t (reading_of t) refl c.args.places c.requires in
+    let answered : Answered c.args.file.now c.args.places c.consensus-consensus.new.1.1.0 c.consensus-consensus.result.answer = let s = c.args.file.now in answer_said s c.args.places file-at _ _ (part_to_end s c.args.places.strings) c.default.ensures (c.consensus-consensus.ensures.fits (omega arith)) _ _ c.consensus-consensus.ensures.answer c.consensus-consensus.ensures.lent in
+    let said = answer_refused _ _ _ _ answered _ c.in-Refused.is in record { judgement = said.0; text = said.1; short = omega arith }
 
 pub returns-in-Given : goal.returns-in-Given
 returns-in-Given c =
-    let said = answer_given _ _ _ _ (answered c) _ _ c.in-Given.is in record { judgement = said.0; text = said.1; short = given_short c.consensus-consensus.result.answer _ _ c.in-Given.is c.consensus-consensus.ensures.short }
+    let file-at : FileAt (read_file c.args.file.now) c.args.places = let t = read_file c.args.file.now in read_accepted t (reading_of t) refl c.args.places c.requires in
+    let answered : Answered c.args.file.now c.args.places c.consensus-consensus.new.1.1.0 c.consensus-consensus.result.answer = let s = c.args.file.now in answer_said s c.args.places file-at _ _ (part_to_end s c.args.places.strings) c.default.ensures (c.consensus-consensus.ensures.fits (omega arith)) _ _ c.consensus-consensus.ensures.answer c.consensus-consensus.ensures.lent in
+    let said = answer_given _ _ _ _ answered _ _ c.in-Given.is in record { judgement = said.0; text = said.1; short = given_short c.consensus-consensus.result.answer _ _ c.in-Given.is c.consensus-consensus.ensures.short }

@@ -10,4 +10,4 @@ returns c =
     print_then (print_then (print_then c.put_byte-a.ensures c.put_byte-b.ensures) c.put_byte-c.ensures) c.put_byte.ensures
 
 pub shape_of-out : goal.shape_of-out
-shape_of-out c = printed_length (whole c)
+shape_of-out c = printed_length (returns c)

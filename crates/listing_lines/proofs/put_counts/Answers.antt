@@ -16,10 +16,10 @@ returns c =
     (printed_as c.put_field.ensures (ap field c.u32_as_u64-4.ensures.value))
 
 pub shape_of-out : goal.shape_of-out
-shape_of-out c = printed_length (whole c)
+shape_of-out c = printed_length (returns c)
 
 pub returns : goal.returns
-returns c = whole c
+returns c = returns c
 
 pub put_field-requires : goal.put_field-requires
 put_field-requires c = tt

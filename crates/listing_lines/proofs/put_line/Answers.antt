@@ -17,10 +17,10 @@ returns c =
     (line_puts c.args.number c.args.called.call c.args.called.counts)
 
 pub shape_of-out : goal.shape_of-out
-shape_of-out c = printed_length (whole c)
+shape_of-out c = printed_length (returns c)
 
 pub returns : goal.returns
-returns c = whole c
+returns c = returns c
 
 pub put_byte-requires : goal.put_byte-requires
 put_byte-requires c = tt

@@ -13,13 +13,6 @@ use Rattle.listing_lines.specs.Tables.{line_with}
 use Rattle.listing_lines.proofs.Lines.{lines_more, lines_past, lines_none}
 use Rattle.listing_lines.proofs.put_lines.Goals as goal
 
--- the column lies in the file
-inside : (c : tie.After-known-told invariant-loop decreases-loop)
-    → let s = c.args.file.now in
-    c.in-At.first + 2 * c.in-At.n ≤ length s
-inside c =
-    column_fits c.args.file.now c.loop-number.column c.in-At.first c.in-At.n (sym c.column_at-next.ensures.place ∙ c.in-At.is)
-
 pub loop-number-init : goal.loop-number-init
 loop-number-init c =
     let e : c.args.count - 0 ≡ c.args.count = omega arith in
@@ -35,13 +28,19 @@ returns-in_default c =
     printed_as c.loop-number.invariant.2 (no_more c.loop-number.invariant.1 _ _ (lines_past called c.args.file.now c.loop-number.column (c.args.count - c.loop-number.number) (c.loop-number.number + 1) e) c.loop-number.invariant.3)
 
 pub overflow_mul-end : goal.overflow_mul-end
-overflow_mul-end c = omega (arith, inside c)
+overflow_mul-end c =
+    let inside : let s = c.args.file.now in c.in-At.first + 2 * c.in-At.n ≤ length s = column_fits c.args.file.now c.loop-number.column c.in-At.first c.in-At.n (sym c.column_at-next.ensures.place ∙ c.in-At.is) in
+    omega (arith, inside)
 
 pub overflow_add-end : goal.overflow_add-end
-overflow_add-end c = omega (arith, inside c)
+overflow_add-end c =
+    let inside : let s = c.args.file.now in c.in-At.first + 2 * c.in-At.n ≤ length s = column_fits c.args.file.now c.loop-number.column c.in-At.first c.in-At.n (sym c.column_at-next.ensures.place ∙ c.in-At.is) in
+    omega (arith, inside)
 
 pub slice_bounds-call_column-end : goal.slice_bounds-call_column-end
-slice_bounds-call_column-end c = inside c
+slice_bounds-call_column-end c =
+    let inside : let s = c.args.file.now in c.in-At.first + 2 * c.in-At.n ≤ length s = column_fits c.args.file.now c.loop-number.column c.in-At.first c.in-At.n (sym c.column_at-next.ensures.place ∙ c.in-At.is) in
+    inside
 
 pub loop-number-preserved : goal.loop-number-preserved
 loop-number-preserved c =

@@ -16,7 +16,7 @@ returns c =
     print_then (print_then {u = text} c.put_bytes-lines.ensures c.put_lines-umi.ensures) c.put_umi.ensures
 
 pub shape_of-out : goal.shape_of-out
-shape_of-out c = printed_length (whole c)
+shape_of-out c = printed_length (returns c)
 
 pub returns : goal.returns
-returns c = whole c
+returns c = returns c

@@ -24,7 +24,7 @@ returns c =
     (print_then c.put_bytes-a.ensures (print_then c.put_bytes-b.ensures c.put_bytes-2.ensures))
 
 pub shape_of-out : goal.shape_of-out
-shape_of-out c = printed_length (whole-2 c)
+shape_of-out c = printed_length (returns c)
 
 pub returns : goal.returns
-returns c = whole-2 c
+returns c = returns c

@@ -7,26 +7,22 @@ use Rattle.lent_text.proofs.Printed.{printed_length, printed_written, printed_fr
 use Rattle.refusal_text.proofs.Lines.{refusal_length, line_put, line_not_put}
 use Rattle.refusal_text.proofs.print_refusal.Goals as goal
 
--- the line is as long as was counted, and stands at the front
-line_there : (c : tie.After-put-refusal)
-    → let t = refusal_line c.args.refusal in
-    (c.put_refusal-n.result ≡ length t) × (take c.put_refusal-n.result c.put_refusal-n.new.0 ≡ t)
-line_there c =
-    let n = refusal_length c.args.refusal in
-    ((printed_written c.put_refusal-n.ensures (omega arith)).0, printed_front c.put_refusal-n.ensures (omega arith))
-
 pub slice_bounds-aside-end : goal.slice_bounds-aside-end
 slice_bounds-aside-end c =
-    omega (arith, (line_there c).0, refusal_length c.args.refusal, printed_length c.put_refusal-n.ensures)
+    let line_there : let t = refusal_line c.args.refusal in (c.put_refusal-n.result ≡ length t) × (take c.put_refusal-n.result c.put_refusal-n.new.0 ≡ t) = let n = refusal_length c.args.refusal in ((printed_written c.put_refusal-n.ensures (omega arith)).0, printed_front c.put_refusal-n.ensures (omega arith)) in
+    omega (arith, line_there.0, refusal_length c.args.refusal, printed_length c.put_refusal-n.ensures)
 
 pub slice_bounds-write_front-end : goal.slice_bounds-write_front-end
 slice_bounds-write_front-end c =
-    (line_there c).0 ∙ sym (ap length (line_there c).1)
+    let line_there : let t = refusal_line c.args.refusal in (c.put_refusal-n.result ≡ length t) × (take c.put_refusal-n.result c.put_refusal-n.new.0 ≡ t) = let n = refusal_length c.args.refusal in ((printed_written c.put_refusal-n.ensures (omega arith)).0, printed_front c.put_refusal-n.ensures (omega arith)) in
+    line_there.0 ∙ sym (ap length line_there.1)
 
 pub returns-then-write_front : goal.returns-then-write_front
-returns-then-write_front c = let said = line_put (refusal_line c.args.refusal) c.args.out.now _ c.write_front.new.0 c.put_refusal-n.result c.write_front.result
-    (line_there c).1 (line_there c).0 c.write_front.ensures.reply c.write_front.ensures.lent c.if-write_front.true in record { reply = said.0; lent = said.1 }
+returns-then-write_front c =
+    let line_there : let t = refusal_line c.args.refusal in (c.put_refusal-n.result ≡ length t) × (take c.put_refusal-n.result c.put_refusal-n.new.0 ≡ t) = let n = refusal_length c.args.refusal in ((printed_written c.put_refusal-n.ensures (omega arith)).0, printed_front c.put_refusal-n.ensures (omega arith)) in let said = line_put (refusal_line c.args.refusal) c.args.out.now _ c.write_front.new.0 c.put_refusal-n.result c.write_front.result
+    line_there.1 line_there.0 c.write_front.ensures.reply c.write_front.ensures.lent c.if-write_front.true in record { reply = said.0; lent = said.1 }
 
 pub returns : goal.returns
-returns c = let said = line_not_put (refusal_line c.args.refusal) c.args.out.now _ c.write_front.new.0 c.put_refusal-n.result c.write_front.result
-    (line_there c).1 (line_there c).0 c.write_front.ensures.reply c.write_front.ensures.lent c.if-write_front.false in record { reply = said.0; lent = said.1 }
+returns c =
+    let line_there : let t = refusal_line c.args.refusal in (c.put_refusal-n.result ≡ length t) × (take c.put_refusal-n.result c.put_refusal-n.new.0 ≡ t) = let n = refusal_length c.args.refusal in ((printed_written c.put_refusal-n.ensures (omega arith)).0, printed_front c.put_refusal-n.ensures (omega arith)) in let said = line_not_put (refusal_line c.args.refusal) c.args.out.now _ c.write_front.new.0 c.put_refusal-n.result c.write_front.result
+    line_there.1 line_there.0 c.write_front.ensures.reply c.write_front.ensures.lent c.if-write_front.false in record { reply = said.0; lent = said.1 }

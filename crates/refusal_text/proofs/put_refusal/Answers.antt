@@ -15,4 +15,4 @@ returns c =
     c.put_byte.ensures)
 
 pub shape_of-out : goal.shape_of-out
-shape_of-out c = printed_length (whole c)
+shape_of-out c = printed_length (returns c)

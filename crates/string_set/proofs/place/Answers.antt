@@ -1,20 +1,14 @@
 -- `place`: with the places of the strings still to come, what is lent is as it is to be, at each turn. Assumes nothing.
 use mathlib.Core.Path.{refl}
-use Prim.Native.Nat.{◌+◌, ◌-◌, ◌≤◌}
+use Prim.Native.Nat.{◌-◌}
 use native.Mathlib.Omega.{arith}
-use lib.ListN.{length, length-set}
-use Rattle.words.specs.Lists.{byte_at}
-use Rattle.string_set.proofs.Placed.{to_place_all, to_place_inside, to_place_more, to_place_none}
+use lib.ListN.{length-set}
+use Rattle.string_set.proofs.Placed.{to_place_all, to_place_more, to_place_none}
 use Rattle.string_set.proofs.place.Goals as goal
 
 pub loop-k-init : goal.loop-k-init
 loop-k-init c =
     (omega arith, refl, to_place_all c.args.set.now c.args.places.now _ c.requires.0 c.requires.1)
-
--- a turn's string ends within the bytes
-inside : (c : tie.In-loop invariant-loop decreases-loop) → c.loop-k.at + 1 + byte_at c.args.set.now c.loop-k.at ≤ length c.args.set.now
-inside c =
-    to_place_inside _ _ c.loop-k.places _ c.loop-k.k c.loop-k.at c.loop-k.invariant.2 c.loop-k-test.true
 
 pub loop-k-preserved : goal.loop-k-preserved
 loop-k-preserved c =

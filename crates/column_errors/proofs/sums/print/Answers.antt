@@ -6,13 +6,10 @@ use Rattle.column_file.proofs.Readings.{FileAt, read-refused, read_accepted}
 use Rattle.column_errors.proofs.Files.{sums_refused, sums_there}
 use Rattle.column_errors.proofs.sums.print.Goals as goal
 
--- the file was accepted
-given : (c : tie.After-reading2) → FileAt (read_file c.args.file.now) c.in-Accepted.places
-given c =
-    read_accepted _ c.read-reading.result c.read-reading.ensures.reading _ c.in-Accepted.is
-
 pub print_sums-requires : goal.print_sums-requires
-print_sums-requires c = omega (arith, few_columns _ _ (given c))
+print_sums-requires c =
+    let given : FileAt (read_file c.args.file.now) c.in-Accepted.places = read_accepted _ c.read-reading.result c.read-reading.ensures.reading _ c.in-Accepted.is in
+    omega (arith, few_columns _ _ given)
 
 pub returns-in-Refused : goal.returns-in-Refused
 returns-in-Refused c =
@@ -21,4 +18,5 @@ returns-in-Refused c =
 
 pub returns-in-Accepted : goal.returns-in-Accepted
 returns-in-Accepted c =
-    let s = c.args.file.now in let said = rw (sums_there s _ (given c)) c.print_sums.ensures in record { reply = said.0; lent = said.1 }
+    let given : FileAt (read_file c.args.file.now) c.in-Accepted.places = read_accepted _ c.read-reading.result c.read-reading.ensures.reading _ c.in-Accepted.is in
+    let s = c.args.file.now in let said = rw (sums_there s _ given) c.print_sums.ensures in record { reply = said.0; lent = said.1 }

@@ -11,17 +11,12 @@ use Rattle.column_errors.proofs.sums.print_sums.Goals as goal
 abbrev entered : tie.After-fits2 → tie.Start
 entered c = c
 
--- the text by the table that was made
-text_same : (c : tie.After-fits2)
-    → let a = (entered c).args in
-    sum_lines_with c.error_table-errors.result (columns_at a.file.now a.places.columns a.places.count) ≡ places_sums a.places a.file.now
-unfolding places_sums
-text_same c =
-    let a = (entered c).args in
-    ap (λ (table : List ℕ). sum_lines_with table (columns_at a.file.now a.places.columns a.places.count)) c.error_table-errors.ensures
-
 pub returns-then-not-fits : goal.returns-then-not-fits
-returns-then-not-fits c = let said = not_printed _ (entered c).args.out.now _ (text_same c) c.fits2.result c.fits2.ensures c.if-not-fits.true in record { reply = said.0; lent = said.1 }
+unfolding places_sums
+returns-then-not-fits c =
+    let text_same : let a = (entered c).args in sum_lines_with c.error_table-errors.result (columns_at a.file.now a.places.columns a.places.count) ≡ places_sums a.places a.file.now = let a = (entered c).args in ap (λ (table : List ℕ). sum_lines_with table (columns_at a.file.now a.places.columns a.places.count)) c.error_table-errors.ensures in let said = not_printed _ (entered c).args.out.now _ text_same c.fits2.result c.fits2.ensures c.if-not-fits.true in record { reply = said.0; lent = said.1 }
 
 pub returns : goal.returns
-returns c = let said = all_printed _ (entered c).args.out.now _ (text_same c) c.fits2.result c.fits2.ensures c.if-not-fits.false c.put_sums.result _ c.put_sums.ensures in record { reply = said.0; lent = said.1 }
+unfolding places_sums
+returns c =
+    let text_same : let a = (entered c).args in sum_lines_with c.error_table-errors.result (columns_at a.file.now a.places.columns a.places.count) ≡ places_sums a.places a.file.now = let a = (entered c).args in ap (λ (table : List ℕ). sum_lines_with table (columns_at a.file.now a.places.columns a.places.count)) c.error_table-errors.ensures in let said = all_printed _ (entered c).args.out.now _ text_same c.fits2.result c.fits2.ensures c.if-not-fits.false c.put_sums.result _ c.put_sums.ensures in record { reply = said.0; lent = said.1 }

@@ -9,14 +9,6 @@ use Rattle.column_file.proofs.ColumnWalk.{observations_length, column_none, colu
 use Rattle.column_file.proofs.ColumnWalk.{read_long, read_cut, read_left, read-refused, read_sound}
 use Rattle.column_file.proofs.columns.read_column.Goals as goal
 
--- the column that the step names lies in the bytes
-inside : (c : tie.After-known-told)
-    → let s = c.args.part.now in
-    c.in-At.start + 2 * c.in-At.n ≤ length s
-inside c =
-    let s = c.args.part.now in
-    column_inside s 0 c.column_at-place.result c.column_at-place.ensures.place _ _ c.in-At.is
-
 pub returns-then-part-gt-LONGEST_FILE : goal.returns-then-part-gt-LONGEST_FILE
 returns-then-part-gt-LONGEST_FILE c = let said = column_said _ _ (ap column_reading_of (sym (read_long _ c.if-part-gt-LONGEST_FILE.true))) in record { reading = said.0; number = said.1 }
 
@@ -25,10 +17,14 @@ returns-in_default c =
     let s = c.args.part.now in let said = column_said s _ (ap column_reading_of (sym (read_cut s (omega arith) (column_none s 0 c.column_at-place.result c.column_at-place.ensures.place c.in_default.is)))) in record { reading = said.0; number = said.1 }
 
 pub overflow_mul-n : goal.overflow_mul-n
-overflow_mul-n c = omega (arith, inside c)
+overflow_mul-n c =
+    let inside : let s = c.args.part.now in c.in-At.start + 2 * c.in-At.n ≤ length s = let s = c.args.part.now in column_inside s 0 c.column_at-place.result c.column_at-place.ensures.place _ _ c.in-At.is in
+    omega (arith, inside)
 
 pub overflow_add-start : goal.overflow_add-start
-overflow_add-start c = omega (arith, inside c)
+overflow_add-start c =
+    let inside : let s = c.args.part.now in c.in-At.start + 2 * c.in-At.n ≤ length s = let s = c.args.part.now in column_inside s 0 c.column_at-place.result c.column_at-place.ensures.place _ _ c.in-At.is in
+    omega (arith, inside)
 
 pub returns-then-start-n : goal.returns-then-start-n
 returns-then-start-n c =
@@ -36,7 +32,9 @@ returns-then-start-n c =
     let is = column-is s 0 c.column_at-place.result c.column_at-place.ensures.place _ _ c.in-At.is in let said = column_said s _ (ap column_reading_of (sym (read_left s (omega arith) _ _ is c.if-start-n.true))) in record { reading = said.0; number = said.1 }
 
 pub column_verdict-verdict-requires : goal.column_verdict-verdict-requires
-column_verdict-verdict-requires c = inside c
+column_verdict-verdict-requires c =
+    let inside : let s = c.args.part.now in c.in-At.start + 2 * c.in-At.n ≤ length s = let s = c.args.part.now in column_inside s 0 c.column_at-place.result c.column_at-place.ensures.place _ _ c.in-At.is in
+    inside
 
 pub returns-in-Refused : goal.returns-in-Refused
 returns-in-Refused c =

@@ -11,11 +11,6 @@ use Rattle.column_file.proofs.Sections.{parts, Found, found, found_cut}
 use Rattle.column_file.proofs.FileRead.{file_long, file_cut, file_unsettled, file_faulty, accepted_at}
 use Rattle.column_file.proofs.file.read.Goals as goal
 
--- where the sections are
-where_found : (c : tie.After-known-told) → let s = c.args.file.now in
-    Found (alone (sections s)) c.in-At.columns c.in-At.count c.in-At.strings c.in-At.verdict
-where_found c = found _ _ _ _ _ (sym c.in-At.is ∙ c.sections_of-found.ensures)
-
 pub returns-then-file-gt-LONGEST_FILE : goal.returns-then-file-gt-LONGEST_FILE
 returns-then-file-gt-LONGEST_FILE c =
     let s = c.args.file.now in let said = file_said s _ (ap reading_of (sym (file_long s c.if-file-gt-LONGEST_FILE.true))) in record { reading = said.0; number = said.1 }
@@ -27,23 +22,27 @@ returns-in_default c =
 
 pub settled_at-tested-requires : goal.settled_at-tested-requires
 settled_at-tested-requires c =
-    let d = where_found c in
+    let where_found : let s = c.args.file.now in Found (alone (sections s)) c.in-At.columns c.in-At.count c.in-At.strings c.in-At.verdict = found _ _ _ _ _ (sym c.in-At.is ∙ c.sections_of-found.ensures) in
+    let d = where_found in
     (parts c.args.file.now (omega arith) d.sections d.is).reaches
 
 pub returns-in_default-tested : goal.returns-in_default-tested
 returns-in_default-tested c =
+    let where_found : let s = c.args.file.now in Found (alone (sections s)) c.in-At.columns c.in-At.count c.in-At.strings c.in-At.verdict = found _ _ _ _ _ (sym c.in-At.is ∙ c.sections_of-found.ensures) in
     let s = c.args.file.now in
-    let d = where_found c in
+    let d = where_found in
     let bad = is_refused (settings_of (bytes_of s)) _ (sym c.settled_at-tested.ensures ∙ c.in_default-tested.is) in let said = file_said s _ (ap reading_of (sym (file_unsettled s (omega arith) d.sections d.is _ bad))) in record { reading = said.0; number = said.1 }
 
 pub returns-in-Refused : goal.returns-in-Refused
 returns-in-Refused c =
+    let where_found : let s = c.args.file.now in Found (alone (sections s)) c.in-At.columns c.in-At.count c.in-At.strings c.in-At.verdict = found _ _ _ _ _ (sym c.in-At.is ∙ c.sections_of-found.ensures) in
     let s = c.args.file.now in
-    let d = where_found c in
+    let d = where_found in
     let good = is_accepted_lem (settings_of (bytes_of s)) _ (sym c.settled_at-tested.ensures ∙ c.in-Accepted.is) in
     let faulty = sym d.verdict ∙ c.in-Refused.is in let said = file_said s _ (ap reading_of (sym (file_faulty s (omega arith) d.sections d.is _ good _ faulty))) in record { reading = said.0; number = said.1 }
 
 pub returns-in-Sound : goal.returns-in-Sound
 returns-in-Sound c =
+    let where_found : let s = c.args.file.now in Found (alone (sections s)) c.in-At.columns c.in-At.count c.in-At.strings c.in-At.verdict = found _ _ _ _ _ (sym c.in-At.is ∙ c.sections_of-found.ensures) in
     let s = c.args.file.now in
-    let good = is_accepted_lem (settings_of (bytes_of s)) _ (sym c.settled_at-tested.ensures ∙ c.in-Accepted.is) in let said = file_said s _ (accepted_at s (omega arith) _ _ _ _ (where_found c) _ good c.in-Sound.is) in record { reading = said.0; number = said.1 }
+    let good = is_accepted_lem (settings_of (bytes_of s)) _ (sym c.settled_at-tested.ensures ∙ c.in-Accepted.is) in let said = file_said s _ (accepted_at s (omega arith) _ _ _ _ where_found _ good c.in-Sound.is) in record { reading = said.0; number = said.1 }

@@ -12,46 +12,33 @@ use Rattle.column_listing.proofs.Lengths.{places_length}
 use Rattle.column_listing.proofs.Outcomes.{same_text, listed_refused, listed_accepted, refused_reply, accepted_reply}
 use Rattle.column_listing.proofs.listing.write.Goals as goal
 
--- the file was accepted
-given : (c : tie.After-judgement2)
-    → let s = c.args.file.now in
-    AcceptedAs (judge_file s) c.in-Accepted.places c.in-Accepted.n c.in-Accepted.had_errors
-given c =
-    said_accepted _ c.judge-judged.result.judgement c.judge-judged.ensures.judgement _ _ _ c.in-Accepted.is
-
--- with a consensus of at most 255 bytes
-short : (c : tie.After-judgement2) → c.in-Accepted.n ≤ 255
-short c =
-    accepted_short c.judge-judged.result.judgement _ _ _ c.in-Accepted.is c.judge-judged.ensures.short
-
--- so the text is the file's
-text_same : (c : tie.After-judgement2)
-    → let s = c.args.file.now in
-    let u = (given c).judged.found in
-    places_text c.in-Accepted.places s (take c.in-Accepted.n c.judge-judged.result.text) c.in-Accepted.had_errors ≡ places_text c.in-Accepted.places s u.text u.had_errors
-text_same c =
-    same_text _ _ (consensus_there _ _ _ _ (given c) _ c.judge-judged.ensures.text (short c)) (given c).flagged
-
--- which the array holds
-room : (c : tie.After-judgement2) → c.in-Accepted.n ≤ length c.judge-judged.result.text
-room c =
-    omega (arith, short c, consensus_room (judge_file c.args.file.now) _ c.judge-judged.ensures.text)
-
 pub slice_bounds-text-end : goal.slice_bounds-text-end
-slice_bounds-text-end c = room c
+slice_bounds-text-end c =
+    let short : c.in-Accepted.n ≤ 255 = accepted_short c.judge-judged.result.judgement _ _ _ c.in-Accepted.is c.judge-judged.ensures.short in
+    let room : c.in-Accepted.n ≤ length c.judge-judged.result.text = omega (arith, short, consensus_room (judge_file c.args.file.now) _ c.judge-judged.ensures.text) in
+    room
 
 pub slice_bounds-write_text-end : goal.slice_bounds-write_text-end
-slice_bounds-write_text-end c = sym (length-take-le _ _ (room c))
+slice_bounds-write_text-end c =
+    let short : c.in-Accepted.n ≤ 255 = accepted_short c.judge-judged.result.judgement _ _ _ c.in-Accepted.is c.judge-judged.ensures.short in
+    let room : c.in-Accepted.n ≤ length c.judge-judged.result.text = omega (arith, short, consensus_room (judge_file c.args.file.now) _ c.judge-judged.ensures.text) in
+    sym (length-take-le _ _ room)
 
 pub write_text-requires : goal.write_text-requires
 write_text-requires c =
+    let given : let s = c.args.file.now in AcceptedAs (judge_file s) c.in-Accepted.places c.in-Accepted.n c.in-Accepted.had_errors = said_accepted _ c.judge-judged.result.judgement c.judge-judged.ensures.judgement _ _ _ c.in-Accepted.is in
+    let short : c.in-Accepted.n ≤ 255 = accepted_short c.judge-judged.result.judgement _ _ _ c.in-Accepted.is c.judge-judged.ensures.short in
+    let text_same : let s = c.args.file.now in let u = given.judged.found in places_text c.in-Accepted.places s (take c.in-Accepted.n c.judge-judged.result.text) c.in-Accepted.had_errors ≡ places_text c.in-Accepted.places s u.text u.had_errors = same_text _ _ (consensus_there _ _ _ _ given _ c.judge-judged.ensures.text short) given.flagged in
     let s = c.args.file.now in
-    let a = given c in
+    let a = given in
     let f = judged_at s _ _ _ a in
-    (omega (arith, few_columns s _ f), rw (text_same c) (places_length s _ f a.judged.found (omega (arith, a.size, short c))))
+    (omega (arith, few_columns s _ f), rw text_same (places_length s _ f a.judged.found (omega (arith, a.size, short))))
 
 pub returns-in-Refused : goal.returns-in-Refused
 returns-in-Refused c = let said = refused_reply c.args.file.now c.args.out.now _ (listed_refused c.args.file.now _ (said_refused _ c.judge-judged.result.judgement c.judge-judged.ensures.judgement _ c.in-Refused.is)) in record { reply = said.0; lent = said.1 }
 
 pub returns-in-Accepted : goal.returns-in-Accepted
-returns-in-Accepted c = let said = accepted_reply c.args.file.now c.args.out.now _ _ c.write_text.result _ (listed_accepted c.args.file.now _ _ _ (given c)) (text_same c) c.write_text.ensures.reply c.write_text.ensures.lent in record { reply = said.0; lent = said.1 }
+returns-in-Accepted c =
+    let given : let s = c.args.file.now in AcceptedAs (judge_file s) c.in-Accepted.places c.in-Accepted.n c.in-Accepted.had_errors = said_accepted _ c.judge-judged.result.judgement c.judge-judged.ensures.judgement _ _ _ c.in-Accepted.is in
+    let short : c.in-Accepted.n ≤ 255 = accepted_short c.judge-judged.result.judgement _ _ _ c.in-Accepted.is c.judge-judged.ensures.short in
+    let text_same : let s = c.args.file.now in let u = given.judged.found in places_text c.in-Accepted.places s (take c.in-Accepted.n c.judge-judged.result.text) c.in-Accepted.had_errors ≡ places_text c.in-Accepted.places s u.text u.had_errors = same_text _ _ (consensus_there _ _ _ _ given _ c.judge-judged.ensures.text short) given.flagged in let said = accepted_reply c.args.file.now c.args.out.now _ _ c.write_text.result _ (listed_accepted c.args.file.now _ _ _ given) text_same c.write_text.ensures.reply c.write_text.ensures.lent in record { reply = said.0; lent = said.1 }

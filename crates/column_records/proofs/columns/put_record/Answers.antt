@@ -20,4 +20,4 @@ returns c =
     (print_then (printed_as c.put_four-rest.ensures (ap four_bytes c.u32_as_u64-4.ensures.value)) (printed_as c.put_four.ensures (ap four_bytes (c.ignored.ensures ∙ ap (λ (d : ℕ). n - d) c.total-depth.ensures))))))))
 
 pub shape_of-out : goal.shape_of-out
-shape_of-out c = printed_length (whole c)
+shape_of-out c = printed_length (returns c)

@@ -13,13 +13,6 @@ use Rattle.column_records.specs.Records.{record_of}
 use Rattle.column_records.proofs.RecordLaws.{records_more, records_past, records_none}
 use Rattle.column_records.proofs.columns.put_records.Goals as goal
 
--- the column lies in the file
-inside : (c : tie.After-known-told invariant-loop decreases-loop)
-    → let s = c.args.file.now in
-    c.in-At.first + 2 * c.in-At.n ≤ length s
-inside c =
-    column_fits c.args.file.now c.loop-left.column c.in-At.first c.in-At.n (sym c.column_at-next.ensures.place ∙ c.in-At.is)
-
 pub loop-left-init : goal.loop-left-init
 loop-left-init c = ([], print_none _ _ (omega arith) (omega arith), refl)
 
@@ -33,13 +26,19 @@ returns-in_default c =
     printed_as c.loop-left.invariant.1 (no_more c.loop-left.invariant.0 _ _ (records_past called c.args.file.now c.loop-left.column c.loop-left.left e) c.loop-left.invariant.2)
 
 pub overflow_mul-end : goal.overflow_mul-end
-overflow_mul-end c = omega (arith, inside c)
+overflow_mul-end c =
+    let inside : let s = c.args.file.now in c.in-At.first + 2 * c.in-At.n ≤ length s = column_fits c.args.file.now c.loop-left.column c.in-At.first c.in-At.n (sym c.column_at-next.ensures.place ∙ c.in-At.is) in
+    omega (arith, inside)
 
 pub overflow_add-end : goal.overflow_add-end
-overflow_add-end c = omega (arith, inside c)
+overflow_add-end c =
+    let inside : let s = c.args.file.now in c.in-At.first + 2 * c.in-At.n ≤ length s = column_fits c.args.file.now c.loop-left.column c.in-At.first c.in-At.n (sym c.column_at-next.ensures.place ∙ c.in-At.is) in
+    omega (arith, inside)
 
 pub slice_bounds-call_column-end : goal.slice_bounds-call_column-end
-slice_bounds-call_column-end c = inside c
+slice_bounds-call_column-end c =
+    let inside : let s = c.args.file.now in c.in-At.first + 2 * c.in-At.n ≤ length s = column_fits c.args.file.now c.loop-left.column c.in-At.first c.in-At.n (sym c.column_at-next.ensures.place ∙ c.in-At.is) in
+    inside
 
 pub loop-left-preserved : goal.loop-left-preserved
 loop-left-preserved c =

@@ -9,16 +9,11 @@ use Rattle.column_records.specs.Records.{records_in}
 use Rattle.column_records.proofs.Replies.{columns_there, records_refused, records_there, refused_reply, accepted_reply, number_is}
 use Rattle.column_records.proofs.columns.records.Goals as goal
 
--- the file was accepted
-given : (c : tie.After-judgement2)
-    → AcceptedAs (judge_file c.args.file.now) c.in-Accepted.places c.in-Accepted.field-1 c.in-Accepted.field-2
-given c =
-    said_accepted _ c.judge-judgement.result.judgement c.judge-judgement.ensures.judgement _ _ _ c.in-Accepted.is
-
 pub write_records-requires : goal.write_records-requires
 write_records-requires c =
+    let given : AcceptedAs (judge_file c.args.file.now) c.in-Accepted.places c.in-Accepted.field-1 c.in-Accepted.field-2 = said_accepted _ c.judge-judgement.result.judgement c.judge-judgement.ensures.judgement _ _ _ c.in-Accepted.is in
     let s = c.args.file.now in
-    let a = given c in
+    let a = given in
     (omega (arith, few_columns s _ (judged_at s _ _ _ a)), columns_there s _ _ _ a)
 
 pub returns-in-Refused : goal.returns-in-Refused
@@ -27,4 +22,5 @@ returns-in-Refused c =
 
 pub returns-in-Accepted : goal.returns-in-Accepted
 returns-in-Accepted c =
-    let r = accepted_reply c.args.file.now c.args.out.now _ _ _ (records_there c.args.file.now _ _ _ (given c)) c.write_records.ensures in record { answer = r.0; lent = r.1; number = ap listing_number r.0 ∙ number_is (records_in c.args.file.now c.args.out.now) }
+    let given : AcceptedAs (judge_file c.args.file.now) c.in-Accepted.places c.in-Accepted.field-1 c.in-Accepted.field-2 = said_accepted _ c.judge-judgement.result.judgement c.judge-judgement.ensures.judgement _ _ _ c.in-Accepted.is in
+    let r = accepted_reply c.args.file.now c.args.out.now _ _ _ (records_there c.args.file.now _ _ _ given) c.write_records.ensures in record { answer = r.0; lent = r.1; number = ap listing_number r.0 ∙ number_is (records_in c.args.file.now c.args.out.now) }

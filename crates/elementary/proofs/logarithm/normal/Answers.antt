@@ -11,12 +11,12 @@ float_to_bits-n c = rw c.requires tt
 
 pub overflow_add-k : goal.overflow_add-k
 overflow_add-k c =
-    let n : to_bits binary64 c.args.x < 2 ^ 64 = to_bits-lt binary64 _ (rw c.well-formed.0.1 tt) in
+    let n : to_bits binary64 c.args.x < 2 ^ 64 = to_bits-lt binary64 _ (rw c.well_formed.0.1 tt) in
     omega arith
 
 pub overflow_cast-k : goal.overflow_cast-k
 overflow_cast-k c =
-    let n : to_bits binary64 c.args.x < 2 ^ 64 = to_bits-lt binary64 _ (rw c.well-formed.0.1 tt) in
+    let n : to_bits binary64 c.args.x < 2 ^ 64 = to_bits-lt binary64 _ (rw c.well_formed.0.1 tt) in
     omega arith
 
 pub float_from_bits-t : goal.float_from_bits-t

@@ -5,9 +5,7 @@ use Rattle.expected_errors.specs.Sums.{error_sum}
 use Rattle.expected_errors.proofs.SumLaws.{nothing_lost}
 use Rattle.expected_errors.proofs.sums.error_sum.Goals as goal
 
-sum : (c : tie.After-errors-with) → c.errors_with.result ≡ error_sum (observations_in c.args.observations.now) % 2 ^ 64
-unfolding error_sum
-sum c = rw (c.errors_with.ensures, c.error_table-errors.ensures)
-
 pub returns : goal.returns
-returns c = record { sum = sum c; exact = λ few. sum c ∙ nothing_lost _ few }
+unfolding error_sum
+returns c =
+    let sum : c.errors_with.result ≡ error_sum (observations_in c.args.observations.now) % 2 ^ 64 = rw (c.errors_with.ensures, c.error_table-errors.ensures) in record { sum = sum; exact = λ few. sum ∙ nothing_lost _ few }

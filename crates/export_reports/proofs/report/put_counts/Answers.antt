@@ -25,7 +25,7 @@ returns c =
     put_then (put_then (put_then c.put_number-a.ensures c.put_number-c.ensures) c.put_number-g.ensures) c.put_number.ensures
 
 pub shape_of-out : goal.shape_of-out
-shape_of-out c = put_length (whole c)
+shape_of-out c = put_length (returns c)
 
 pub returns : goal.returns
-returns c = whole c
+returns c = returns c

@@ -21,7 +21,7 @@ returns c =
     put_then (put_then c.put_builder-a.ensures c.put_calls-b.ensures) c.put_byte.ensures
 
 pub shape_of-out : goal.shape_of-out
-shape_of-out c = put_length (whole c)
+shape_of-out c = put_length (returns c)
 
 pub returns : goal.returns
-returns c = whole c
+returns c = returns c

@@ -7,6 +7,7 @@ use borrow.Author.Tests.{le-ltb}
 use lib.Dec.{ltb}
 use lib.ListN.{get_or}
 use lib.Seq.{sets}
+use Rattle.words.specs.Choice.{if◌then◌else◌}
 use Rattle.unanimous_shortcut.specs.Unanimous.{tables_of}
 use Rattle.export_reports.specs.Bytes.{Put}
 use Rattle.rate_tables.specs.Adjusted.{adjusted_of}
@@ -30,13 +31,10 @@ put_item-at-requires c =
     let n = rw (le-ltb (get_or s c.loop-i.i 0) 3 h) at q in
     omega (arith, n, c.loop-i.invariant.1)
 
--- the next place is a number of 64 bits
-small : (c : tie.In-loop invariant-loop decreases-loop) → c.loop-i.i + 3 < 2 ^ 64
-small c = omega arith
-
 pub overflow_add-i-in-loop-i-3 : goal.overflow_add-i-in-loop-i-3
 overflow_add-i-in-loop-i-3 c =
-    omega (arith, small c)
+    let small : c.loop-i.i + 3 < 2 ^ 64 = omega arith in
+    omega (arith, small)
 
 pub loop-i-preserved : goal.loop-i-preserved
 loop-i-preserved c =

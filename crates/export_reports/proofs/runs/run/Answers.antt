@@ -22,42 +22,32 @@ pub returns-then-not-is_script : goal.returns-then-not-is_script
 returns-then-not-is_script c =
     let e = bad_script c.args.pre.0 c.args.post.0 c.args.rule c.args.script.now c.args.builder c.if-rule-gt1.false (sym c.is_script.ensures ∙ not-true c.is_script.result c.if-not-is_script.true) in record { reply = none_replied _ _ e; lent = none_written _ _ e }
 
--- the bytes that are asked for
-abbrev asks : tie.Start → List ℕ
-asks c = script_bytes c.args.pre.0 c.args.post.0 c.args.rule c.args.script.now c.args.builder
-
--- they are the reports of a good script
-whole : (c : tie.After-questions-in)
-    → asks c ≡ reports (adjusted_tables c.args.post.0) (gap_tables c.args.pre.0) (items c.args.script.now) (script_start c.args.rule c.args.builder)
-whole c =
-    good c.args.pre.0 c.args.post.0 c.args.rule c.args.script.now c.args.builder c.if-rule-gt1.false (sym c.is_script.ensures ∙ not-false c.is_script.result c.if-not-is_script.false)
-
-size : (c : tie.After-questions-in)
-    → length (asks c) ≡ 91 * c.questions_in-n.result
-size c =
-    ap length (whole c) ∙ reports_length (adjusted_tables c.args.post.0) (gap_tables c.args.pre.0) (items c.args.script.now) (script_start c.args.rule c.args.builder) ∙ ap (λ (n : ℕ). 91 * n) (sym c.questions_in-n.ensures)
-
 pub returns-then-out-n : goal.returns-then-out-n
 returns-then-out-n c =
+    let asks : List ℕ = script_bytes c.args.pre.0 c.args.post.0 c.args.rule c.args.script.now c.args.builder in
+    let whole : asks ≡ reports (adjusted_tables c.args.post.0) (gap_tables c.args.pre.0) (items c.args.script.now) (script_start c.args.rule c.args.builder) = good c.args.pre.0 c.args.post.0 c.args.rule c.args.script.now c.args.builder c.if-rule-gt1.false (sym c.is_script.ensures ∙ not-false c.is_script.result c.if-not-is_script.false) in
+    let size : length asks ≡ 91 * c.questions_in-n.result = ap length whole ∙ reports_length (adjusted_tables c.args.post.0) (gap_tables c.args.pre.0) (items c.args.script.now) (script_start c.args.rule c.args.builder) ∙ ap (λ (n : ℕ). 91 * n) (sym c.questions_in-n.ensures) in
     let out = c.args.out.now in
-    let l = size c in
-    let h : length out < length (asks c) = omega (arith, c.if-out-n.true) in record { reply = short_replied (asks c) out h; lent = short_written (asks c) out h }
-
--- they fit
-few : (c : tie.Else3) → 91 * c.questions_in-n.result < 2 ^ 64
-few c = omega arith
-
-room : (c : tie.Else3)
-    → length (asks c) ≤ length c.args.out.now
-room c = omega (arith, size c, c.if-out-n.false)
+    let l = size in
+    let h : length out < length asks = omega (arith, c.if-out-n.true) in record { reply = short_replied asks out h; lent = short_written asks out h }
 
 pub put_script-requires : goal.put_script-requires
-put_script-requires c = rw (c.with_tie_rule.ensures, c.rule_of.ensures, ← whole c) (room c)
+put_script-requires c =
+    let asks : List ℕ = script_bytes c.args.pre.0 c.args.post.0 c.args.rule c.args.script.now c.args.builder in
+    let whole : asks ≡ reports (adjusted_tables c.args.post.0) (gap_tables c.args.pre.0) (items c.args.script.now) (script_start c.args.rule c.args.builder) = good c.args.pre.0 c.args.post.0 c.args.rule c.args.script.now c.args.builder c.if-rule-gt1.false (sym c.is_script.ensures ∙ not-false c.is_script.result c.if-not-is_script.false) in
+    let size : length asks ≡ 91 * c.questions_in-n.result = ap length whole ∙ reports_length (adjusted_tables c.args.post.0) (gap_tables c.args.pre.0) (items c.args.script.now) (script_start c.args.rule c.args.builder) ∙ ap (λ (n : ℕ). 91 * n) (sym c.questions_in-n.ensures) in
+    let room : length asks ≤ length c.args.out.now = omega (arith, size, c.if-out-n.false) in
+    rw (c.with_tie_rule.ensures, c.rule_of.ensures, ← whole) room
 
 pub overflow_mul-result : goal.overflow_mul-result
 overflow_mul-result c =
-    omega (arith, few c)
+    let few : 91 * c.questions_in-n.result < 2 ^ 64 = omega arith in
+    omega (arith, few)
 
 pub returns : goal.returns
 returns c =
-    let o = c.args.out.now in record { reply = sym (size c) ∙ fits_replied (asks c) o (room c); lent = (rw (c.with_tie_rule.ensures, c.rule_of.ensures, ← whole c) at c.put_script.ensures ∙ fits_written (asks c) o (room c), ) }
+    let asks : List ℕ = script_bytes c.args.pre.0 c.args.post.0 c.args.rule c.args.script.now c.args.builder in
+    let whole : asks ≡ reports (adjusted_tables c.args.post.0) (gap_tables c.args.pre.0) (items c.args.script.now) (script_start c.args.rule c.args.builder) = good c.args.pre.0 c.args.post.0 c.args.rule c.args.script.now c.args.builder c.if-rule-gt1.false (sym c.is_script.ensures ∙ not-false c.is_script.result c.if-not-is_script.false) in
+    let size : length asks ≡ 91 * c.questions_in-n.result = ap length whole ∙ reports_length (adjusted_tables c.args.post.0) (gap_tables c.args.pre.0) (items c.args.script.now) (script_start c.args.rule c.args.builder) ∙ ap (λ (n : ℕ). 91 * n) (sym c.questions_in-n.ensures) in
+    let room : length asks ≤ length c.args.out.now = omega (arith, size, c.if-out-n.false) in
+    let o = c.args.out.now in record { reply = sym size ∙ fits_replied asks o room; lent = rw (c.with_tie_rule.ensures, c.rule_of.ensures, ← whole) at c.put_script.ensures ∙ fits_written asks o room }

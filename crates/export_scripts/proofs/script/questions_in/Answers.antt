@@ -11,16 +11,15 @@ use Rattle.export_scripts.proofs.script.questions_in.Goals as goal
 pub loop-i-init : goal.loop-i-init
 loop-i-init c = (omega arith, omega arith, omega arith)
 
--- what is added
-one : (c : tie.After-asked invariant-loop decreases-loop) → c.asked-n.result ≤ 1
-one c = rw c.asked-n.ensures (one_at_most (ltb (get_or c.args.script.now c.loop-i.i 0) 3))
-
 pub overflow_add-n : goal.overflow_add-n
-overflow_add-n c = omega (arith, one c)
+overflow_add-n c =
+    let one : c.asked-n.result ≤ 1 = rw c.asked-n.ensures (one_at_most (ltb (get_or c.args.script.now c.loop-i.i 0) 3)) in
+    omega (arith, one)
 
 pub loop-i-preserved : goal.loop-i-preserved
 loop-i-preserved c =
-    (omega arith, omega (arith, one c), omega (arith, c.loop-i.invariant.2, questions_at c.args.script.now c.loop-i.i (omega arith), c.asked-n.ensures))
+    let one : c.asked-n.result ≤ 1 = rw c.asked-n.ensures (one_at_most (ltb (get_or c.args.script.now c.loop-i.i 0) 3)) in
+    (omega arith, omega (arith, one), omega (arith, c.loop-i.invariant.2, questions_at c.args.script.now c.loop-i.i (omega arith), c.asked-n.ensures))
 
 pub returns : goal.returns
 unfolding questions

@@ -8,13 +8,6 @@ use Rattle.words.proofs.Sums.{wrapped, all_added_lem}
 use Rattle.export_timing.proofs.ColumnAmounts.{turn, turned_past, turned}
 use Rattle.export_timing.proofs.columns.add_round.Goals as goal
 
--- the column lies in the file
-inside : (c : tie.After-known-told invariant-loop decreases-loop)
-    → let s = c.args.file.now in
-    c.in-At.first + 2 * c.in-At.n ≤ length s
-inside c =
-    column_fits c.args.file.now c.loop-left.place c.in-At.first c.in-At.n (sym c.column_at-next.ensures.place ∙ c.in-At.is)
-
 pub loop-left-init : goal.loop-left-init
 loop-left-init c = (refl, search rules)
 
@@ -25,13 +18,19 @@ returns-in_default c =
     all_added_lem c.loop-left.total _ _ (2 ^ 64) c.loop-left.invariant.1 (turned_past called c.args.file.now c.loop-left.place c.loop-left.left e) c.loop-left.invariant.0
 
 pub overflow_mul-end : goal.overflow_mul-end
-overflow_mul-end c = omega (arith, inside c)
+overflow_mul-end c =
+    let inside : let s = c.args.file.now in c.in-At.first + 2 * c.in-At.n ≤ length s = column_fits c.args.file.now c.loop-left.place c.in-At.first c.in-At.n (sym c.column_at-next.ensures.place ∙ c.in-At.is) in
+    omega (arith, inside)
 
 pub overflow_add-end : goal.overflow_add-end
-overflow_add-end c = omega (arith, inside c)
+overflow_add-end c =
+    let inside : let s = c.args.file.now in c.in-At.first + 2 * c.in-At.n ≤ length s = column_fits c.args.file.now c.loop-left.place c.in-At.first c.in-At.n (sym c.column_at-next.ensures.place ∙ c.in-At.is) in
+    omega (arith, inside)
 
 pub slice_bounds-call_column-end : goal.slice_bounds-call_column-end
-slice_bounds-call_column-end c = inside c
+slice_bounds-call_column-end c =
+    let inside : let s = c.args.file.now in c.in-At.first + 2 * c.in-At.n ≤ length s = column_fits c.args.file.now c.loop-left.place c.in-At.first c.in-At.n (sym c.column_at-next.ensures.place ∙ c.in-At.is) in
+    inside
 
 pub loop-left-preserved : goal.loop-left-preserved
 loop-left-preserved c =

@@ -9,13 +9,10 @@ use Rattle.export_timing.proofs.scripts.add_run.Goals as goal
 pub loop-i-init : goal.loop-i-init
 loop-i-init c = (omega arith, refl, search rules)
 
--- the next place is a number of 64 bits
-small : (c : tie.In-loop invariant-loop decreases-loop) → c.loop-i.i + 3 < 2 ^ 64
-small c = omega arith
-
 pub overflow_add-i-in-loop-i-3 : goal.overflow_add-i-in-loop-i-3
 overflow_add-i-in-loop-i-3 c =
-    omega (arith, small c)
+    let small : c.loop-i.i + 3 < 2 ^ 64 = omega arith in
+    omega (arith, small)
 
 pub loop-i-preserved : goal.loop-i-preserved
 loop-i-preserved c =

@@ -6,9 +6,6 @@ use Rattle.export_writer.specs.Numbers.{most_columns, stage_code}
 use Rattle.export_writer.proofs.Coded.{columns_code}
 use Rattle.export_writer.proofs.numbers.stage_code.Goals as goal
 
-few : (c : tie.After-rule-number) → c.in-AwaitsColumns.left < most_columns
-few c = rw c.in-AwaitsColumns.is at c.requires
-
 pub returns-in-AwaitsSettings : goal.returns-in-AwaitsSettings
 unfolding stage_code
 returns-in-AwaitsSettings c = let said = rw c.in-AwaitsSettings.is (refl, omega arith) in record { code = said.0; few = said.1 }
@@ -22,8 +19,9 @@ unfolding stage_code
 returns-in-Finished c = let said = rw c.in-Finished.is (refl, omega arith) in record { code = said.0; few = said.1 }
 
 pub returns-in-AwaitsColumns : goal.returns-in-AwaitsColumns
-returns-in-AwaitsColumns c = let said = rw c.in-AwaitsColumns.is
-    (columns_code _ _ _ _ _ (few c) c.rule_number.ensures c.u8_as_u64.ensures c.u8_as_u64-in-AwaitsColumns.ensures) in record { code = said.0; few = said.1 }
+returns-in-AwaitsColumns c =
+    let few : c.in-AwaitsColumns.left < most_columns = rw c.in-AwaitsColumns.is at c.requires in let said = rw c.in-AwaitsColumns.is
+    (columns_code _ _ _ _ _ few c.rule_number.ensures c.u8_as_u64.ensures c.u8_as_u64-in-AwaitsColumns.ensures) in record { code = said.0; few = said.1 }
 
 pub overflow_add-result-in-AwaitsColumns-2 : goal.overflow_add-result-in-AwaitsColumns-2
 overflow_add-result-in-AwaitsColumns-2 c = omega (arith, few c)

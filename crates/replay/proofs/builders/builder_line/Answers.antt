@@ -9,42 +9,33 @@ pub returns-then-line-ne450 : goal.returns-then-line-ne450
 unfolding is_builder_line builder_line
 returns-then-line-ne450 c = rw (ne_eqb _ _ c.if-line-ne450.true)
 
-abbrev line : tie.After-read-field → List ℕ
-line c =
-    c.args.line.now
-
--- what the code tests: the newline, then each field
-abbrev newline : tie.After-read-field → Bool
-newline c = eqb (get_or (line c) 449 0) 10
-
-abbrev formed-1 : tie.After-read-field → Bool
-formed-1 c = newline c && c.read_field.result
-
-abbrev formed-2 : tie.After-read-field2 → Bool
-formed-2 c = formed-1 c && c.read_field-2.result
-
-abbrev formed-3 : tie.After-read-field3 → Bool
-formed-3 c = formed-2 c && c.read_field-3.result
-
-abbrev formed : tie.After-read-field4 → Bool
-formed c = formed-3 c && c.read_field-4.result
-
-form : (c : tie.After-read-field4) →
-    is_builder_line (line c) ≡ formed c
-unfolding is_builder_line
-form c =
-    rw (eq-eqb _ _ c.if-line-ne450.false, ← c.read_field.ensures.value, ← c.read_field-2.ensures.value, ← c.read_field-3.ensures.value, ← c.read_field-4.ensures.value)
-
 pub returns-then-not-formed : goal.returns-then-not-formed
 unfolding builder_line
-returns-then-not-formed c = rw (form c, not-true (formed c) c.if-not-formed.true)
+unfolding is_builder_line
+returns-then-not-formed c =
+    let line : List ℕ = c.args.line.now in
+    let newline : Bool = eqb (get_or line 449 0) 10 in
+    let formed-1 : Bool = newline && c.read_field.result in
+    let formed-2 : Bool = formed-1 && c.read_field-2.result in
+    let formed-3 : Bool = formed-2 && c.read_field-3.result in
+    let formed : Bool = formed-3 && c.read_field-4.result in
+    let form : is_builder_line line ≡ formed = rw (eq-eqb _ _ c.if-line-ne450.false, ← c.read_field.ensures.value, ← c.read_field-2.ensures.value, ← c.read_field-3.ensures.value, ← c.read_field-4.ensures.value) in
+    rw (form, not-true formed c.if-not-formed.true)
 
 pub returns : goal.returns
 unfolding builder_line
+unfolding is_builder_line
 returns c =
-    let all = not-false (formed c) c.if-not-formed.false in
-    let t4 = both (formed-3 c) c.read_field-4.result all in
-    let t3 = both (formed-2 c) c.read_field-3.result t4.0 in
-    let t2 = both (formed-1 c) c.read_field-2.result t3.0 in
-    let t1 = both (newline c) c.read_field.result t2.0 in
-    rw (form c, all, ← c.read_field.ensures.out_after t1.1, ← c.read_field-2.ensures.out_after t2.1, ← c.read_field-3.ensures.out_after t3.1, ← c.read_field-4.ensures.out_after t4.1) c.beside_script.ensures
+    let line : List ℕ = c.args.line.now in
+    let newline : Bool = eqb (get_or line 449 0) 10 in
+    let formed-1 : Bool = newline && c.read_field.result in
+    let formed-2 : Bool = formed-1 && c.read_field-2.result in
+    let formed-3 : Bool = formed-2 && c.read_field-3.result in
+    let formed : Bool = formed-3 && c.read_field-4.result in
+    let form : is_builder_line line ≡ formed = rw (eq-eqb _ _ c.if-line-ne450.false, ← c.read_field.ensures.value, ← c.read_field-2.ensures.value, ← c.read_field-3.ensures.value, ← c.read_field-4.ensures.value) in
+    let all = not-false formed c.if-not-formed.false in
+    let t4 = both formed-3 c.read_field-4.result all in
+    let t3 = both formed-2 c.read_field-3.result t4.0 in
+    let t2 = both formed-1 c.read_field-2.result t3.0 in
+    let t1 = both newline c.read_field.result t2.0 in
+    rw (form, all, ← c.read_field.ensures.out_after t1.1, ← c.read_field-2.ensures.out_after t2.1, ← c.read_field-3.ensures.out_after t3.1, ← c.read_field-4.ensures.out_after t4.1) c.beside_script.ensures

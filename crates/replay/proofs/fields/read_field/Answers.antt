@@ -26,7 +26,7 @@ loop-i-preserved c =
 pub returns : goal.returns
 returns c =
     let h : length c.loop-i.out ≤ c.loop-i.i = omega arith in
-    let end : length c.args.field.now ≤ 2 * c.loop-i.i + 1 = omega arith in record { value = digits_decide _ c.if-field-ne32.false (sym c.loop-i.invariant.2 ∙ digits_end _ c.loop-i.i end); out_after = (λ e. rw (take_all c.loop-i.i c.loop-i.out h, bytes_end _ c.loop-i.i end, append-nil) at c.loop-i.invariant.3, ) }
+    let end : length c.args.field.now ≤ 2 * c.loop-i.i + 1 = omega arith in record { value = digits_decide _ c.if-field-ne32.false (sym c.loop-i.invariant.2 ∙ digits_end _ c.loop-i.i end); out_after = λ e. rw (take_all c.loop-i.i c.loop-i.out h, bytes_end _ c.loop-i.i end, append-nil) at c.loop-i.invariant.3 }
 
 pub loop-i-init : goal.loop-i-init
 loop-i-init c = (omega arith, refl, refl, refl)

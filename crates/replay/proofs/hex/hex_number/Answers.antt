@@ -10,15 +10,10 @@ pub returns-then-d-gt15 : goal.returns-then-d-gt15
 returns-then-d-gt15 c =
     rw (le-ltb _ _ c.if-digits-gt16.false) (sym (stops _ c.loop-i.i c.loop-i.n (omega arith) (omega (arith, c.digit-d.ensures))) ∙ c.loop-i.invariant.2)
 
--- the number with one digit more is below its bound, and fits
-more : (c : tie.Else2 invariant-loop decreases-loop) →
-    (16 * c.loop-i.n + c.digit-d.result < 16 ^ (c.loop-i.i + 1)) × (16 ^ (c.loop-i.i + 1) ≤ 2 ^ 64)
-more c =
-    (more_digits c.loop-i.i c.loop-i.n _ c.loop-i.invariant.1 (omega arith), few_digits (c.loop-i.i + 1) (omega arith))
-
 pub loop-i-preserved : goal.loop-i-preserved
 loop-i-preserved c =
-    (omega arith, (more c).0, rw c.digit-d.ensures (sym (goes_on _ c.loop-i.i c.loop-i.n (omega arith) (omega (arith, c.digit-d.ensures))) ∙ c.loop-i.invariant.2))
+    let more : (16 * c.loop-i.n + c.digit-d.result < 16 ^ (c.loop-i.i + 1)) × (16 ^ (c.loop-i.i + 1) ≤ 2 ^ 64) = (more_digits c.loop-i.i c.loop-i.n _ c.loop-i.invariant.1 (omega arith), few_digits (c.loop-i.i + 1) (omega arith)) in
+    (omega arith, more.0, rw c.digit-d.ensures (sym (goes_on _ c.loop-i.i c.loop-i.n (omega arith) (omega (arith, c.digit-d.ensures))) ∙ c.loop-i.invariant.2))
 
 pub returns : goal.returns
 returns c = rw (le-ltb _ _ c.if-digits-gt16.false) (sym (ends _ c.loop-i.i c.loop-i.n (omega arith)) ∙ c.loop-i.invariant.2)

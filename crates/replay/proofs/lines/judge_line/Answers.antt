@@ -1,18 +1,11 @@
 -- `judge_line`: by what the letter names. Assumes nothing.
-use Rattle.std.proofs.Common.{◌≡◌, get_or, eq-eqb, ne_eqb}
-use Rattle.replay.specs.Lines.{of_kind, line_verdict_of}
+use Rattle.std.proofs.Common.{eq-eqb}
+use Rattle.replay.specs.Lines.{line_verdict_of}
 use Rattle.replay.proofs.lines.judge_line.Goals as goal
 
 pub returns-then-line-eq0 : goal.returns-then-line-eq0
 unfolding line_verdict_of
 returns-then-line-eq0 c = rw (eq-eqb _ 0 c.if-line-eq0.true)
-
--- a line with a letter
-by_kind : (c : tie.After-kind-of) →
-    let line = c.args.line.now in
-    line_verdict_of line ≡ of_kind (get_or line 0 0) c.kind_of-kind.result line
-unfolding line_verdict_of
-by_kind c = rw (ne_eqb _ 0 c.if-line-eq0.false, ← c.kind_of-kind.ensures)
 
 pub returns-in-FunctionLine : goal.returns-in-FunctionLine
 returns-in-FunctionLine c = rw (by_kind c, c.in-FunctionLine.is) c.answer_line.ensures

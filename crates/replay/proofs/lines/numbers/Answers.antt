@@ -4,21 +4,15 @@ use Rattle.replay.specs.Lines.{field_of, field_start, fields_from}
 use Rattle.replay.proofs.Numbers.{goes_on, stops}
 use Rattle.replay.proofs.lines.numbers.Goals as goal
 
--- the field before those that are read
-field_is : (c : tie.After-field invariant-loop decreases-loop) →
-    c.field.result ≡ field_of (take 17 (drop (field_start (c.loop-left.left - 1)) c.args.line.now))
-field_is c =
-    let start = field_start (c.loop-left.left - 1) in
-    let h : start + 17 - start ≡ 17 = omega arith in
-    rw h at c.field.ensures
-
 pub returns-in_default : goal.returns-in_default
 returns-in_default c =
-    c.no_fields-in_default.ensures ∙ sym (stops _ c.loop-left.numbers (c.loop-left.left - 1) (omega arith) (sym (field_is c) ∙ c.in_default.is)) ∙ c.loop-left.invariant.2
+    let field_is : c.field.result ≡ field_of (take 17 (drop (field_start (c.loop-left.left - 1)) c.args.line.now)) = let start = field_start (c.loop-left.left - 1) in let h : start + 17 - start ≡ 17 = omega arith in rw h at c.field.ensures in
+    c.no_fields-in_default.ensures ∙ sym (stops _ c.loop-left.numbers (c.loop-left.left - 1) (omega arith) (sym field_is ∙ c.in_default.is)) ∙ c.loop-left.invariant.2
 
 pub loop-left-preserved : goal.loop-left-preserved
 loop-left-preserved c =
-    (omega arith, simp length-set c.loop-left.invariant.1, sym (goes_on _ c.loop-left.numbers (c.loop-left.left - 1) (omega arith) (sym (field_is c) ∙ c.in-Number.is)) ∙ c.loop-left.invariant.2)
+    let field_is : c.field.result ≡ field_of (take 17 (drop (field_start (c.loop-left.left - 1)) c.args.line.now)) = let start = field_start (c.loop-left.left - 1) in let h : start + 17 - start ≡ 17 = omega arith in rw h at c.field.ensures in
+    (omega arith, simp length-set c.loop-left.invariant.1, sym (goes_on _ c.loop-left.numbers (c.loop-left.left - 1) (omega arith) (sym field_is ∙ c.in-Number.is)) ∙ c.loop-left.invariant.2)
 
 pub returns : goal.returns
 unfolding fields_from

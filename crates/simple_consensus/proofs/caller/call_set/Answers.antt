@@ -14,39 +14,41 @@ use Rattle.simple_consensus.proofs.Groups.{strings_count, read-refused, read_str
 use Rattle.simple_consensus.proofs.Replies.{call_in_refused, call_in_none, call_in}
 use Rattle.simple_consensus.proofs.caller.call_set.Goals as goal
 
--- what was read: n strings at the first places
-abbrev setOf : tie.After-n → List ℕ
-setOf c = c.args.set.now
-
-abbrev places_of : tie.After-n → List ℕ
-places_of c = c.read_places.new.1.0
-
-abbrev count_of : tie.After-n → ℕ
-count_of c = c.in-Strings.n
-
-abbrev stringsOf : tie.After-n → List (List ℕ)
-stringsOf c = strings_at 0 (setOf c) (take (count_of c) (places_of c))
-
-strings : (c : tie.After-n)
-    → (read_set (setOf c) ≡ accepted (stringsOf c)) × (count_of c ≤ length (places_of c)) × Trimmed 0 (setOf c) (take (count_of c) (places_of c))
-strings c =
-    read_strings (setOf c) (places_of c) (replicate 255 0) c.read_places.result c.read_places.ensures (count_of c) c.in-Strings.is
-
--- as many as the count says
-count : (c : tie.After-n) → length (stringsOf c) ≡ count_of c
-count c = strings_count 0 (setOf c) (take (count_of c) (places_of c)) (strings c).2 ∙ length-take-le (count_of c) (places_of c) (strings c).1
-
 pub returns-then-n-eq0 : goal.returns-then-n-eq0
-returns-then-n-eq0 c = let said = rw (call_in_none c.args.set.now c.args.out.now c.args.caller (stringsOf c) (strings c).0 (count c ∙ c.if-n-eq0.true)) (c.refused_consensus-then-n-eq0.ensures, (refl, omega arith)) in record { group = said.0; lent = said.1.0; few = said.1.1 }
+returns-then-n-eq0 c =
+    let setOf : List ℕ = c.args.set.now in
+    let places_of : List ℕ = c.read_places.new.1.0 in
+    let count_of : ℕ = c.in-Strings.n in
+    let stringsOf : List (List ℕ) = strings_at 0 setOf (take count_of places_of) in
+    let strings : (read_set setOf ≡ accepted stringsOf) × (count_of ≤ length places_of) × Trimmed 0 setOf (take count_of places_of) = read_strings setOf places_of (replicate 255 0) c.read_places.result c.read_places.ensures count_of c.in-Strings.is in
+    let count : length stringsOf ≡ count_of = strings_count 0 setOf (take count_of places_of) strings.2 ∙ length-take-le count_of places_of strings.1 in let said = rw (call_in_none c.args.set.now c.args.out.now c.args.caller stringsOf strings.0 (count ∙ c.if-n-eq0.true)) (c.refused_consensus-then-n-eq0.ensures, (refl, omega arith)) in record { group = said.0; lent = said.1.0; few = said.1.1 }
 
 pub slice_bounds-places-end : goal.slice_bounds-places-end
-slice_bounds-places-end c = (strings c).1
+slice_bounds-places-end c =
+    let setOf : List ℕ = c.args.set.now in
+    let places_of : List ℕ = c.read_places.new.1.0 in
+    let count_of : ℕ = c.in-Strings.n in
+    let stringsOf : List (List ℕ) = strings_at 0 setOf (take count_of places_of) in
+    let strings : (read_set setOf ≡ accepted stringsOf) × (count_of ≤ length places_of) × Trimmed 0 setOf (take count_of places_of) = read_strings setOf places_of (replicate 255 0) c.read_places.result c.read_places.ensures count_of c.in-Strings.is in
+    strings.1
 
 pub slice_bounds-alike_consensus-end : goal.slice_bounds-alike_consensus-end
-slice_bounds-alike_consensus-end c = sym (length-take-le (count_of c) (places_of c) (strings c).1)
+slice_bounds-alike_consensus-end c =
+    let setOf : List ℕ = c.args.set.now in
+    let places_of : List ℕ = c.read_places.new.1.0 in
+    let count_of : ℕ = c.in-Strings.n in
+    let stringsOf : List (List ℕ) = strings_at 0 setOf (take count_of places_of) in
+    let strings : (read_set setOf ≡ accepted stringsOf) × (count_of ≤ length places_of) × Trimmed 0 setOf (take count_of places_of) = read_strings setOf places_of (replicate 255 0) c.read_places.result c.read_places.ensures count_of c.in-Strings.is in
+    sym (length-take-le count_of places_of strings.1)
 
 pub alike_consensus-requires : goal.alike_consensus-requires
-alike_consensus-requires c = (strings c).2
+alike_consensus-requires c =
+    let setOf : List ℕ = c.args.set.now in
+    let places_of : List ℕ = c.read_places.new.1.0 in
+    let count_of : ℕ = c.in-Strings.n in
+    let stringsOf : List (List ℕ) = strings_at 0 setOf (take count_of places_of) in
+    let strings : (read_set setOf ≡ accepted stringsOf) × (count_of ≤ length places_of) × Trimmed 0 setOf (take count_of places_of) = read_strings setOf places_of (replicate 255 0) c.read_places.result c.read_places.ensures count_of c.in-Strings.is in
+    strings.2
 
 pub returns-in-Refused : goal.returns-in-Refused
 returns-in-Refused c =
@@ -54,5 +56,11 @@ returns-in-Refused c =
 
 pub returns-else-n-eq0 : goal.returns-else-n-eq0
 returns-else-n-eq0 c =
-    let some : 0 < count_of c = omega (arith, c.if-n-eq0.false) in let said = rw (call_in c.args.set.now c.args.out.now c.args.caller (stringsOf c) (strings c).0 (rw (count c) some))
-    (c.alike_consensus.ensures.group, (c.alike_consensus.ensures.lent, room_few c.args.out.now (umis_of c.args.caller (stringsOf c)) c.alike_consensus.ensures.few)) in record { group = said.0; lent = said.1.0; few = said.1.1 }
+    let setOf : List ℕ = c.args.set.now in
+    let places_of : List ℕ = c.read_places.new.1.0 in
+    let count_of : ℕ = c.in-Strings.n in
+    let stringsOf : List (List ℕ) = strings_at 0 setOf (take count_of places_of) in
+    let strings : (read_set setOf ≡ accepted stringsOf) × (count_of ≤ length places_of) × Trimmed 0 setOf (take count_of places_of) = read_strings setOf places_of (replicate 255 0) c.read_places.result c.read_places.ensures count_of c.in-Strings.is in
+    let count : length stringsOf ≡ count_of = strings_count 0 setOf (take count_of places_of) strings.2 ∙ length-take-le count_of places_of strings.1 in
+    let some : 0 < count_of = omega (arith, c.if-n-eq0.false) in let said = rw (call_in c.args.set.now c.args.out.now c.args.caller stringsOf strings.0 (rw count some))
+    (c.alike_consensus.ensures.group, (c.alike_consensus.ensures.lent, room_few c.args.out.now (umis_of c.args.caller stringsOf) c.alike_consensus.ensures.few)) in record { group = said.0; lent = said.1.0; few = said.1.1 }

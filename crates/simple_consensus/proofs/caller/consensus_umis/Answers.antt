@@ -15,32 +15,32 @@ use Rattle.simple_consensus.proofs.Groups.{read-refused, read_strings}
 use Rattle.simple_consensus.proofs.Replies.{replied, umis_in_refused, umis_in}
 use Rattle.simple_consensus.proofs.caller.consensus_umis.Goals as goal
 
--- what was read: n strings at the first places
-abbrev setOf : tie.After-n → List ℕ
-setOf c = c.args.set.now
-
-abbrev places_of : tie.After-n → List ℕ
-places_of c = c.read_places.new.1.0
-
-abbrev count_of : tie.After-n → ℕ
-count_of c = c.in-Strings.n
-
-abbrev stringsOf : tie.After-n → List (List ℕ)
-stringsOf c = strings_at 0 (setOf c) (take (count_of c) (places_of c))
-
-strings : (c : tie.After-n)
-    → (read_set (setOf c) ≡ accepted (stringsOf c)) × (count_of c ≤ length (places_of c)) × Trimmed 0 (setOf c) (take (count_of c) (places_of c))
-strings c =
-    read_strings (setOf c) (places_of c) (replicate 255 0) c.read_places.result c.read_places.ensures (count_of c) c.in-Strings.is
-
 pub slice_bounds-places-end : goal.slice_bounds-places-end
-slice_bounds-places-end c = (strings c).1
+slice_bounds-places-end c =
+    let setOf : List ℕ = c.args.set.now in
+    let places_of : List ℕ = c.read_places.new.1.0 in
+    let count_of : ℕ = c.in-Strings.n in
+    let stringsOf : List (List ℕ) = strings_at 0 setOf (take count_of places_of) in
+    let strings : (read_set setOf ≡ accepted stringsOf) × (count_of ≤ length places_of) × Trimmed 0 setOf (take count_of places_of) = read_strings setOf places_of (replicate 255 0) c.read_places.result c.read_places.ensures count_of c.in-Strings.is in
+    strings.1
 
 pub slice_bounds-alike_consensus-end : goal.slice_bounds-alike_consensus-end
-slice_bounds-alike_consensus-end c = sym (length-take-le (count_of c) (places_of c) (strings c).1)
+slice_bounds-alike_consensus-end c =
+    let setOf : List ℕ = c.args.set.now in
+    let places_of : List ℕ = c.read_places.new.1.0 in
+    let count_of : ℕ = c.in-Strings.n in
+    let stringsOf : List (List ℕ) = strings_at 0 setOf (take count_of places_of) in
+    let strings : (read_set setOf ≡ accepted stringsOf) × (count_of ≤ length places_of) × Trimmed 0 setOf (take count_of places_of) = read_strings setOf places_of (replicate 255 0) c.read_places.result c.read_places.ensures count_of c.in-Strings.is in
+    sym (length-take-le count_of places_of strings.1)
 
 pub alike_consensus-called-requires : goal.alike_consensus-called-requires
-alike_consensus-called-requires c = (strings c).2
+alike_consensus-called-requires c =
+    let setOf : List ℕ = c.args.set.now in
+    let places_of : List ℕ = c.read_places.new.1.0 in
+    let count_of : ℕ = c.in-Strings.n in
+    let stringsOf : List (List ℕ) = strings_at 0 setOf (take count_of places_of) in
+    let strings : (read_set setOf ≡ accepted stringsOf) × (count_of ≤ length places_of) × Trimmed 0 setOf (take count_of places_of) = read_strings setOf places_of (replicate 255 0) c.read_places.result c.read_places.ensures count_of c.in-Strings.is in
+    strings.2
 
 pub returns-in-Refused : goal.returns-in-Refused
 returns-in-Refused c =
@@ -48,6 +48,11 @@ returns-in-Refused c =
 
 pub returns-in-Strings : goal.returns-in-Strings
 returns-in-Strings c =
+    let setOf : List ℕ = c.args.set.now in
+    let places_of : List ℕ = c.read_places.new.1.0 in
+    let count_of : ℕ = c.in-Strings.n in
+    let stringsOf : List (List ℕ) = strings_at 0 setOf (take count_of places_of) in
+    let strings : (read_set setOf ≡ accepted stringsOf) × (count_of ≤ length places_of) × Trimmed 0 setOf (take count_of places_of) = read_strings setOf places_of (replicate 255 0) c.read_places.result c.read_places.ensures count_of c.in-Strings.is in
     let given = rw c.default-caller.ensures at c.alike_consensus-called.ensures in
-    let t = umis_of default_caller (stringsOf c) in
-    let reply = replied default_caller (and_then t (room_for c.args.out.now)) c.alike_consensus-called.result given.0 (room_few c.args.out.now t given.1.1) _ c.unflagged.ensures in let said = rw (umis_in c.args.set.now c.args.out.now (stringsOf c) (strings c).0) (reply.0, (given.1.0, reply.1)) in record { answer = said.0; lent = said.1.0; short = said.1.1.0; number = said.1.1.1 }
+    let t = umis_of default_caller stringsOf in
+    let reply = replied default_caller (and_then t (room_for c.args.out.now)) c.alike_consensus-called.result given.0 (room_few c.args.out.now t given.1.1) _ c.unflagged.ensures in let said = rw (umis_in c.args.set.now c.args.out.now stringsOf strings.0) (reply.0, (given.1.0, reply.1)) in record { answer = said.0; lent = said.1.0; short = said.1.1.0; number = said.1.1.1 }

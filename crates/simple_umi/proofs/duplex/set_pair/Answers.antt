@@ -12,35 +12,41 @@ use Rattle.simple_consensus.proofs.Groups.{read-refused, read_strings}
 use Rattle.simple_umi.proofs.Pairs.{duplex_in_refused, duplex_in_lem, pair_refused}
 use Rattle.simple_umi.proofs.duplex.set_pair.Goals as goal
 
--- what was read: n strings at the first places
-abbrev setOf : tie.After-n → List ℕ
-setOf c = c.args.set.now
-
-abbrev places_of : tie.After-n → List ℕ
-places_of c = c.read_places.new.1.0
-
-abbrev count_of : tie.After-n → ℕ
-count_of c = c.in-Strings.n
-
-abbrev stringsOf : tie.After-n → List (List ℕ)
-stringsOf c = strings_at 0 (setOf c) (take (count_of c) (places_of c))
-
-strings : (c : tie.After-n) → (read_set (setOf c) ≡ accepted (stringsOf c)) × (count_of c ≤ length (places_of c)) × Trimmed 0 (setOf c) (take (count_of c) (places_of c))
-strings c =
-    read_strings (setOf c) (places_of c) (replicate 255 0) c.read_places.result c.read_places.ensures (count_of c) c.in-Strings.is
-
 pub slice_bounds-places-end : goal.slice_bounds-places-end
-slice_bounds-places-end c = (strings c).1
+slice_bounds-places-end c =
+    let setOf : List ℕ = c.args.set.now in
+    let places_of : List ℕ = c.read_places.new.1.0 in
+    let count_of : ℕ = c.in-Strings.n in
+    let stringsOf : List (List ℕ) = strings_at 0 setOf (take count_of places_of) in
+    let strings : (read_set setOf ≡ accepted stringsOf) × (count_of ≤ length places_of) × Trimmed 0 setOf (take count_of places_of) = read_strings setOf places_of (replicate 255 0) c.read_places.result c.read_places.ensures count_of c.in-Strings.is in
+    strings.1
 
 pub slice_bounds-both_strands-end : goal.slice_bounds-both_strands-end
-slice_bounds-both_strands-end c = sym (length-take-le (count_of c) (places_of c) (strings c).1)
+slice_bounds-both_strands-end c =
+    let setOf : List ℕ = c.args.set.now in
+    let places_of : List ℕ = c.read_places.new.1.0 in
+    let count_of : ℕ = c.in-Strings.n in
+    let stringsOf : List (List ℕ) = strings_at 0 setOf (take count_of places_of) in
+    let strings : (read_set setOf ≡ accepted stringsOf) × (count_of ≤ length places_of) × Trimmed 0 setOf (take count_of places_of) = read_strings setOf places_of (replicate 255 0) c.read_places.result c.read_places.ensures count_of c.in-Strings.is in
+    sym (length-take-le count_of places_of strings.1)
 
 pub both_strands-requires : goal.both_strands-requires
-both_strands-requires c = (strings c).2
+both_strands-requires c =
+    let setOf : List ℕ = c.args.set.now in
+    let places_of : List ℕ = c.read_places.new.1.0 in
+    let count_of : ℕ = c.in-Strings.n in
+    let stringsOf : List (List ℕ) = strings_at 0 setOf (take count_of places_of) in
+    let strings : (read_set setOf ≡ accepted stringsOf) × (count_of ≤ length places_of) × Trimmed 0 setOf (take count_of places_of) = read_strings setOf places_of (replicate 255 0) c.read_places.result c.read_places.ensures count_of c.in-Strings.is in
+    strings.2
 
 pub returns-in-Refused : goal.returns-in-Refused
 returns-in-Refused c =
     let e = read-refused c.args.set.now c.read_places.new.1.0 (replicate 255 0) c.read_places.result c.read_places.ensures _ c.in-Refused.is in let said = rw (duplex_in_refused c.args.caller c.args.set.now c.args.out.now _ e) (pair_refused c.args.caller _ c.args.out.now _ refl, omega arith) in record { gave = said.0; short = said.1 }
 
 pub returns-in-Strings : goal.returns-in-Strings
-returns-in-Strings c = let said = rw (duplex_in_lem c.args.caller c.args.set.now c.args.out.now (stringsOf c) (strings c).0) c.both_strands.ensures in record { gave = said.0; short = said.1 }
+returns-in-Strings c =
+    let setOf : List ℕ = c.args.set.now in
+    let places_of : List ℕ = c.read_places.new.1.0 in
+    let count_of : ℕ = c.in-Strings.n in
+    let stringsOf : List (List ℕ) = strings_at 0 setOf (take count_of places_of) in
+    let strings : (read_set setOf ≡ accepted stringsOf) × (count_of ≤ length places_of) × Trimmed 0 setOf (take count_of places_of) = read_strings setOf places_of (replicate 255 0) c.read_places.result c.read_places.ensures count_of c.in-Strings.is in let said = rw (duplex_in_lem c.args.caller c.args.set.now c.args.out.now stringsOf strings.0) c.both_strands.ensures in record { gave = said.0; short = said.1 }

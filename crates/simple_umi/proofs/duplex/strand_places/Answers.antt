@@ -32,4 +32,4 @@ pub shape_of-kept : goal.shape_of-kept
 shape_of-kept c = c.loop-k.invariant.2
 
 pub returns : goal.returns
-returns c = record { strings = sym (strand_done c.args.letter c.args.set.now c.args.places.now c.loop-k.k c.loop-k.auto c.loop-k.n (omega arith)) ∙ c.loop-k.invariant.3; inside = ((omega (arith, c.requires.0), longer_trimmed c.args.set.now c.loop-k.auto c.loop-k.n (omega (arith, c.requires.0)) (omega (arith, c.requires.1.0)) c.loop-k.invariant.4), ) }
+returns c = record { strings = sym (strand_done c.args.letter c.args.set.now c.args.places.now c.loop-k.k c.loop-k.auto c.loop-k.n (omega arith)) ∙ c.loop-k.invariant.3; inside = (omega (arith, c.requires.0), longer_trimmed c.args.set.now c.loop-k.auto c.loop-k.n (omega (arith, c.requires.0)) (omega (arith, c.requires.1.0)) c.loop-k.invariant.4) }

@@ -40,10 +40,4 @@ loop-i-preserved c =
 
 pub returns : goal.returns
 returns c =
-    let r = c.args.row.now in let said = (
-      passed_all 0 r c.args.a.now c.loop-i.i c.loop-i.a (omega arith) c.loop-i.invariant.1,
-      (
-        passed_all 1 r c.args.c.now c.loop-i.i c.loop-i.c (omega arith) c.loop-i.invariant.2,
-        (passed_all 2 r c.args.g.now c.loop-i.i c.loop-i.g (omega arith) c.loop-i.invariant.3, passed_all 3 r c.args.t.now c.loop-i.i c.loop-i.t (omega arith) c.loop-i.invariant.4),
-      ),
-    ) in record { a = said.0; c = said.1.0; g = said.1.1.0; t = said.1.1.1 }
+    let r = c.args.row.now in record { a = passed_all 0 r c.args.a.now c.loop-i.i c.loop-i.a (omega arith) c.loop-i.invariant.1; c = passed_all 1 r c.args.c.now c.loop-i.i c.loop-i.c (omega arith) c.loop-i.invariant.2; g = passed_all 2 r c.args.g.now c.loop-i.i c.loop-i.g (omega arith) c.loop-i.invariant.3; t = passed_all 3 r c.args.t.now c.loop-i.i c.loop-i.t (omega arith) c.loop-i.invariant.4 }

@@ -22,30 +22,30 @@ pub returns-then-not-fit : goal.returns-then-not-fit
 returns-then-not-fit c = let said = rw (first_cut_off c.args.builder c.args.had-errors c.args.width c.args.set.now c.args.places.now (sym c.fit.ensures ∙ not-true _ c.if-not-fit.true))
     (c.refused_group.ensures, refl) in record { group = said.0; lent = said.1 }
 
--- the string lies in the set
-inside : (c : tie.Else1)
-    → fitting c.args.width c.args.set.now (take 1 c.args.places.now) ≡ true
-inside c = sym c.fit.ensures ∙ not-false _ c.if-not-fit.false
-
-whole : (c : tie.Else1)
-    → byte_at c.args.places.now 0 + 1 + c.args.width ≤ length c.args.set.now
-whole c =
-    first_inside c.args.width c.args.set.now c.args.places.now c.requires (inside c)
-
 pub overflow_add-from : goal.overflow_add-from
-overflow_add-from c = omega (arith, whole c)
+overflow_add-from c =
+    let inside : fitting c.args.width c.args.set.now (take 1 c.args.places.now) ≡ true = sym c.fit.ensures ∙ c.if-not-fit.false in
+    let whole : byte_at c.args.places.now 0 + 1 + c.args.width ≤ length c.args.set.now = first_inside c.args.width c.args.set.now c.args.places.now c.requires inside in
+    omega (arith, whole)
 
 pub overflow_add-end : goal.overflow_add-end
-overflow_add-end c = omega (arith, whole c)
+overflow_add-end c =
+    let inside : fitting c.args.width c.args.set.now (take 1 c.args.places.now) ≡ true = sym c.fit.ensures ∙ c.if-not-fit.false in
+    let whole : byte_at c.args.places.now 0 + 1 + c.args.width ≤ length c.args.set.now = first_inside c.args.width c.args.set.now c.args.places.now c.requires inside in
+    omega (arith, whole)
 
 pub slice_bounds-write_front-end : goal.slice_bounds-write_front-end
-slice_bounds-write_front-end c = omega (arith, whole c)
+slice_bounds-write_front-end c =
+    let inside : fitting c.args.width c.args.set.now (take 1 c.args.places.now) ≡ true = sym c.fit.ensures ∙ c.if-not-fit.false in
+    let whole : byte_at c.args.places.now 0 + 1 + c.args.width ≤ length c.args.set.now = first_inside c.args.width c.args.set.now c.args.places.now c.requires inside in
+    omega (arith, whole)
 
 pub returns-then-not-write_front : goal.returns-then-not-write_front
 returns-then-not-write_front c =
+    let inside : fitting c.args.width c.args.set.now (take 1 c.args.places.now) ≡ true = sym c.fit.ensures ∙ c.if-not-fit.false in
     let out = c.args.out.now in
     let from = byte_at c.args.places.now 0 + 1 in
-    let fits = inside c in
+    let fits = inside in
     let text = take c.args.width (drop from c.args.set.now) in
     let reply = rw (row_lent c.args.set.now from c.args.width) at c.write_front.ensures.reply in
     let lent = rw (row_lent c.args.set.now from c.args.width) at c.write_front.ensures.lent in
@@ -54,9 +54,10 @@ returns-then-not-write_front c =
 
 pub returns : goal.returns
 returns c =
+    let inside : fitting c.args.width c.args.set.now (take 1 c.args.places.now) ≡ true = sym c.fit.ensures ∙ c.if-not-fit.false in
     let out = c.args.out.now in
     let from = byte_at c.args.places.now 0 + 1 in
-    let fits = inside c in
+    let fits = inside in
     let size = first_length c.args.width c.args.set.now c.args.places.now c.requires fits in
     let text = take c.args.width (drop from c.args.set.now) in
     let reply = rw (row_lent c.args.set.now from c.args.width) at c.write_front.ensures.reply in

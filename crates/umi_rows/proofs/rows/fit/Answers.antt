@@ -2,7 +2,6 @@
 use mathlib.Core.Path.{refl, sym, ◌∙◌}
 use Prim.Native.Nat.{◌-◌}
 use native.Mathlib.Omega.{arith}
-use borrow.Author.Tests.{not-true, not-false}
 use Rattle.words.proofs.Tests.{every_more, every_failed, every_done}
 use Rattle.umi_rows.proofs.RowLoops.{none_fit, too_many, each_fits}
 use Rattle.umi_rows.proofs.rows.fit.Goals as goal
@@ -19,12 +18,12 @@ loop-k-init c = (omega arith, refl)
 pub returns-then-not-follow : goal.returns-then-not-follow
 returns-then-not-follow c =
     let ps = c.args.places.now in
-    let no = sym c.follow.ensures ∙ not-true _ c.if-not-follow.true in
+    let no = sym c.follow.ensures ∙ c.if-not-follow.true in
     each_fits c.args.width c.args.set.now ps (omega arith) (omega arith) _ (every_failed _ ps 0 c.loop-k.k (omega arith) no ∙ c.loop-k.invariant.1)
 
 pub loop-k-preserved : goal.loop-k-preserved
 loop-k-preserved c =
-    let yes = sym c.follow.ensures ∙ not-false _ c.if-not-follow.false in
+    let yes = sym c.follow.ensures ∙ c.if-not-follow.false in
     (omega arith, every_more _ c.args.places.now 0 c.loop-k.k (omega arith) yes ∙ c.loop-k.invariant.1)
 
 pub returns : goal.returns

@@ -4,7 +4,6 @@ use mathlib.Core.Bool.{true}
 use mathlib.Core.List.{[]}
 use Prim.Native.Nat.{◌+◌, ◌-◌}
 use native.Mathlib.Omega.{arith}
-use borrow.Author.Tests.{not-true, not-false}
 use lib.ListN.{take, drop, get_or}
 use Rattle.words.specs.Lists.{byte_at}
 use Rattle.words.proofs.Tests.{every_first}
@@ -51,7 +50,7 @@ returns-then-not-like_row c =
     let from = byte_at c.args.places.now c.loop-k.k + 1 in
     let f = take c.args.width (drop (byte_at c.args.places.now 0 + 1) c.args.set.now) in
     let lent = rw (row_lent c.args.set.now (byte_at c.args.places.now 0 + 1) c.args.width) at c.like_row.ensures in
-    let said = row_told (like_row f) c.args.set.now from c.args.width _ _ lent (not-true _ c.if-not-like_row.true) in
+    let said = row_told (like_row f) c.args.set.now from c.args.width _ _ lent c.if-not-like_row.true in
     given_failed _ c.args.places.now _ c.loop-k.k (omega arith) said ∙ c.loop-k.invariant.1
 
 pub loop-k-preserved : goal.loop-k-preserved
@@ -59,7 +58,7 @@ loop-k-preserved c =
     let from = byte_at c.args.places.now c.loop-k.k + 1 in
     let f = take c.args.width (drop (byte_at c.args.places.now 0 + 1) c.args.set.now) in
     let lent = rw (row_lent c.args.set.now (byte_at c.args.places.now 0 + 1) c.args.width) at c.like_row.ensures in
-    let said = row_told (like_row f) c.args.set.now from c.args.width _ _ lent (not-false _ c.if-not-like_row.false) in
+    let said = row_told (like_row f) c.args.set.now from c.args.width _ _ lent c.if-not-like_row.false in
     (omega arith, given_passed _ c.args.places.now _ c.loop-k.k (omega arith) said ∙ c.loop-k.invariant.1)
 
 pub returns : goal.returns

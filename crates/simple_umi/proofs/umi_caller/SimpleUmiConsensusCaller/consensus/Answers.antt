@@ -12,19 +12,4 @@ pub returns : goal.returns
 returns c =
     let caller = c.args.self.caller in
     let t = consensus_in caller c.args.set.now c.args.out.now in
-    let answer : c.set_consensus-called.result.answer ≡ flagged_of t = ap (λ (g : GroupConsensus). g.answer) c.set_consensus-called.ensures.group in let said = (
-      answer,
-      (
-        ap (λ (g : GroupConsensus). g.caller) c.set_consensus-called.ensures.group,
-        (
-          c.set_consensus-called.ensures.lent,
-          (
-            rw answer (consensus_few c.args.set.now c.args.out.now caller c.set_consensus-called.ensures.few),
-            (
-              rw answer (numbered flagged_of flaggedNumber (λ r. refl) (λ f. refl) t),
-              λ h. consensus_fits c.args.set.now c.args.out.now caller (omega (arith, c.set_consensus-called.ensures.few, h)),
-            ),
-          ),
-        ),
-      ),
-    ) in record { answer = said.0; caller = said.1.0; lent = said.1.1.0; short = said.1.1.1.0; number = said.1.1.1.1.0; fits = said.1.1.1.1.1 }
+    let answer : c.set_consensus-called.result.answer ≡ flagged_of t = ap (λ (g : GroupConsensus). g.answer) c.set_consensus-called.ensures.group in record { answer = answer; caller = ap (λ (g : GroupConsensus). g.caller) c.set_consensus-called.ensures.group; lent = c.set_consensus-called.ensures.lent; short = rw answer (consensus_few c.args.set.now c.args.out.now caller c.set_consensus-called.ensures.few); number = rw answer (numbered flagged_of flaggedNumber (λ r. refl) (λ f. refl) t); fits = λ h. consensus_fits c.args.set.now c.args.out.now caller (omega (arith, c.set_consensus-called.ensures.few, h)) }

@@ -8,10 +8,4 @@ use Rattle.simple_umi.proofs.umi_caller.SimpleUmiConsensusCaller.consensus_duple
 pub returns : goal.returns
 returns c =
     let caller = c.args.self.caller in
-    let t = duplex_in caller c.args.set.now c.args.out.now in let said = (
-      c.set_pair-pair.ensures.gave.answer,
-      (
-        c.caller_after.ensures ∙ pair_caller caller c.set_pair-pair.result c.args.out.now _ t c.set_pair-pair.ensures.gave,
-        (c.set_pair-pair.ensures.gave.lent, (c.set_pair-pair.ensures.short, rw c.set_pair-pair.ensures.gave.answer (numbered duplex_answer_of duplexNumber (λ r. refl) (λ d. refl) t))),
-      ),
-    ) in record { answer = said.0; caller = said.1.0; lent = said.1.1.0; short = said.1.1.1.0; number = said.1.1.1.1 }
+    let t = duplex_in caller c.args.set.now c.args.out.now in record { answer = c.set_pair-pair.ensures.gave.answer; caller = c.caller_after.ensures ∙ pair_caller caller c.set_pair-pair.result c.args.out.now _ t c.set_pair-pair.ensures.gave; lent = c.set_pair-pair.ensures.gave.lent; short = c.set_pair-pair.ensures.short; number = rw c.set_pair-pair.ensures.gave.answer (numbered duplex_answer_of duplexNumber (λ r. refl) (λ d. refl) t) }
