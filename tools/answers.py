@@ -508,11 +508,16 @@ def convert(root, crate, key, facts, said):
             m = re.match(r"^\(λ c( κs)?\.\s*(.*)\)$", a, re.S)
             if m:
                 t = Turner(fn, fn.place.get(new), here)
-                rest = t.body(m.group(2))
+                rest = strip_uses(plain_tests(t.body(m.group(2))))
+                for o, n in renamed.items():
+                    rest = re.sub(r"(?<![\w.'-])" + re.escape(o) + r"(?![\w'-])", n, rest)
+                lets, unfoldings = lets_for(rest, t)
+                middle = "".join("\n" + u for u in dict.fromkeys(unfoldings))
+                rest = lets + "\n    " + rest.strip() if lets else rest
                 asked = facts["asked"].get(fn.old.get(new, ""), None)
                 if asked and len(asked) > 1:
                     rest = as_record(rest, asked)
-                ans_out.append(f"pub {new} : goal.{new}\n{new} c = {rest.strip()}")
+                ans_out.append(f"pub {new} : goal.{new}{middle}\n{new} c = {rest.strip()}")
             else:
                 here.append(f"argument: {a[:60]}")
     uses = [u for u in uses if ".Statement." not in u and not u.endswith(".Tie as tie") and ".Statement as" not in u]

@@ -9,4 +9,4 @@ pub slice_bounds-text-end : goal.slice_bounds-text-end
 slice_bounds-text-end c = omega (arith, simp length-append at (ap length c.print_stream-n.ensures.lent))
 
 pub slice_bounds-write_text-end : goal.slice_bounds-write_text-end
-slice_bounds-write_text-end c = sym (length-take-le _ _ (array-share-prefix-text c))
+slice_bounds-write_text-end c = sym (length-take-le _ _ (slice_bounds-text-end c))

@@ -6,7 +6,7 @@ pub slice_bounds-read_full-end-2 : goal.slice_bounds-read_full-end-2
 slice_bounds-read_full-end-2 c = simp length-take (omega arith)
 
 pub returns-then-start-lt2 : goal.returns-then-start-lt2
-returns-then-start-lt2 c = simp length-take (omega (arith, same_length c))
+returns-then-start-lt2 c = simp length-take (omega (arith, shape_of-room-then-start-lt2 c))
 
 pub returns : goal.returns
-returns c = simp length-take (omega (arith, same-length-2 c))
+returns c = simp length-take (omega (arith, shape_of-room c))

@@ -24,7 +24,9 @@ returns-in-AwaitsColumns c =
     (columns_code _ _ _ _ _ few c.rule_number.ensures c.u8_as_u64.ensures c.u8_as_u64-in-AwaitsColumns.ensures) in record { code = said.0; few = said.1 }
 
 pub overflow_add-result-in-AwaitsColumns-2 : goal.overflow_add-result-in-AwaitsColumns-2
-overflow_add-result-in-AwaitsColumns-2 c = omega (arith, few c)
+overflow_add-result-in-AwaitsColumns-2 c = let few : c.in-AwaitsColumns.left < most_columns = rw c.in-AwaitsColumns.is at c.requires in
+    omega (arith, few)
 
 pub overflow_add-result-in-AwaitsColumns-2 : goal.overflow_add-result-in-AwaitsColumns-2
-overflow_add-result-in-AwaitsColumns-2 c = omega (arith, few c)
+overflow_add-result-in-AwaitsColumns-2 c = let few : c.in-AwaitsColumns.left < most_columns = rw c.in-AwaitsColumns.is at c.requires in
+    omega (arith, few)

@@ -1,6 +1,6 @@
 -- `judge_line`: by what the letter names. Assumes nothing.
-use Rattle.std.proofs.Common.{eq-eqb}
-use Rattle.replay.specs.Lines.{line_verdict_of}
+use Rattle.std.proofs.Common.{◌≡◌, get_or, eq-eqb, ne_eqb}
+use Rattle.replay.specs.Lines.{of_kind, line_verdict_of}
 use Rattle.replay.proofs.lines.judge_line.Goals as goal
 
 pub returns-then-line-eq0 : goal.returns-then-line-eq0
@@ -8,13 +8,21 @@ unfolding line_verdict_of
 returns-then-line-eq0 c = rw (eq-eqb _ 0 c.if-line-eq0.true)
 
 pub returns-in-FunctionLine : goal.returns-in-FunctionLine
-returns-in-FunctionLine c = rw (by_kind c, c.in-FunctionLine.is) c.answer_line.ensures
+unfolding line_verdict_of
+returns-in-FunctionLine c = let by_kind : let line = c.args.line.now in line_verdict_of line ≡ of_kind (get_or line 0 0) c.kind_of-kind.result line = rw (ne_eqb _ 0 c.if-line-eq0.false, ← c.kind_of-kind.ensures) in
+    rw (by_kind, c.in-FunctionLine.is) c.answer_line.ensures
 
 pub returns-in-BuilderLine : goal.returns-in-BuilderLine
-returns-in-BuilderLine c = rw (by_kind c, c.in-BuilderLine.is) c.builder_line.ensures
+unfolding line_verdict_of
+returns-in-BuilderLine c = let by_kind : let line = c.args.line.now in line_verdict_of line ≡ of_kind (get_or line 0 0) c.kind_of-kind.result line = rw (ne_eqb _ 0 c.if-line-eq0.false, ← c.kind_of-kind.ensures) in
+    rw (by_kind, c.in-BuilderLine.is) c.builder_line.ensures
 
 pub returns-in-ListingLine : goal.returns-in-ListingLine
-returns-in-ListingLine c = rw (by_kind c, c.in-ListingLine.is) c.listing_line.ensures
+unfolding line_verdict_of
+returns-in-ListingLine c = let by_kind : let line = c.args.line.now in line_verdict_of line ≡ of_kind (get_or line 0 0) c.kind_of-kind.result line = rw (ne_eqb _ 0 c.if-line-eq0.false, ← c.kind_of-kind.ensures) in
+    rw (by_kind, c.in-ListingLine.is) c.listing_line.ensures
 
 pub returns-in-UnknownLine : goal.returns-in-UnknownLine
-returns-in-UnknownLine c = rw (by_kind c, c.in-UnknownLine.is)
+unfolding line_verdict_of
+returns-in-UnknownLine c = let by_kind : let line = c.args.line.now in line_verdict_of line ≡ of_kind (get_or line 0 0) c.kind_of-kind.result line = rw (ne_eqb _ 0 c.if-line-eq0.false, ← c.kind_of-kind.ensures) in
+    rw (by_kind, c.in-UnknownLine.is)
