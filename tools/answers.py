@@ -146,6 +146,9 @@ class Turner:
         if best:
             path, arm, field = best
             return ".".join(["c", arm, field, *rest[len(path):]])
+        for s, path, arm, field in reversed(self.arms):
+            if s == step and not path:
+                return ".".join(["c", field, *rest])
         if step in self.steps:
             new, fields = self.steps[step]
             if rest and rest[0] == "ensures" and fields and len(fields) > 1 and len(rest) > 1:
@@ -332,6 +335,7 @@ def convert(root, crate, key, facts, said):
             decls.append((comments, b))
     spec = next((b for _, b in decls if re.match(r"(pub )?\S+-spec :", b[0]) or re.match(r"(pub )?\S+_spec :", b[0])), None)
     args = arguments_of("\n".join(spec)) if spec else []
+    spec_unfoldings = [l for l in (spec or []) if l.startswith("unfolding")]
     loops = len(facts["loops"])
     rows = {}
     invariants, measures = [], []
@@ -502,9 +506,11 @@ def convert(root, crate, key, facts, said):
                 t = Turner(fn, place, here)
                 text_b = t.body(text_b)
             ans_out.append("\n".join([*comments, text_b]))
-    for a in goal_args:
-        if a.startswith("(") and not SEARCHED.match(a) and a in by_place:
-            new = by_place[a]
+    pairs = list(zip(goal_args, [new for old, new in facts["needs"]])) if by_place else []
+    if spec_unfoldings and not by_place:
+        here.append("unfolding at the whole")
+    for a, new in pairs:
+        if a.startswith("(") and (not SEARCHED.match(a) or spec_unfoldings and new.startswith("returns")):
             m = re.match(r"^\(λ c( κs)?\.\s*(.*)\)$", a, re.S)
             if m:
                 t = Turner(fn, fn.place.get(new), here)
@@ -512,7 +518,7 @@ def convert(root, crate, key, facts, said):
                 for o, n in renamed.items():
                     rest = re.sub(r"(?<![\w.'-])" + re.escape(o) + r"(?![\w'-])", n, rest)
                 lets, unfoldings = lets_for(rest, t)
-                middle = "".join("\n" + u for u in dict.fromkeys(unfoldings))
+                middle = "".join("\n" + u for u in dict.fromkeys([*spec_unfoldings, *unfoldings]))
                 rest = lets + "\n    " + rest.strip() if lets else rest
                 asked = facts["asked"].get(fn.old.get(new, ""), None)
                 if asked and len(asked) > 1:

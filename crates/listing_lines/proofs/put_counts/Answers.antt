@@ -21,26 +21,26 @@ shape_of-out c = printed_length (returns c)
 pub returns : goal.returns
 returns c = returns c
 
-pub put_field-requires : goal.put_field-requires
-put_field-requires c = tt
+pub u32_as_u64-requires : goal.u32_as_u64-requires
+u32_as_u64-requires c = tt
 
-pub put_field-requires : goal.put_field-requires
-put_field-requires c = tt
+pub put_field-a-requires : goal.put_field-a-requires
+put_field-a-requires c = tt
 
-pub put_field-requires : goal.put_field-requires
-put_field-requires c = tt
+pub u32_as_u64-requires-2 : goal.u32_as_u64-requires-2
+u32_as_u64-requires-2 c = tt
 
-pub put_field-requires : goal.put_field-requires
-put_field-requires c = tt
+pub put_field-c-requires : goal.put_field-c-requires
+put_field-c-requires c = tt
 
-pub put_field-requires : goal.put_field-requires
-put_field-requires c = tt
+pub u32_as_u64-requires-3 : goal.u32_as_u64-requires-3
+u32_as_u64-requires-3 c = tt
 
-pub put_field-requires : goal.put_field-requires
-put_field-requires c = tt
+pub put_field-g-requires : goal.put_field-g-requires
+put_field-g-requires c = tt
 
-pub put_field-requires : goal.put_field-requires
-put_field-requires c = tt
+pub u32_as_u64-requires-4 : goal.u32_as_u64-requires-4
+u32_as_u64-requires-4 c = tt
 
 pub put_field-requires : goal.put_field-requires
 put_field-requires c = tt

@@ -6,8 +6,8 @@ pub returns : goal.returns
 returns c =
     print_then c.put_byte-place.ensures c.put_decimal.ensures
 
-pub put_decimal-requires : goal.put_decimal-requires
-put_decimal-requires c = tt
+pub put_byte-place-requires : goal.put_byte-place-requires
+put_byte-place-requires c = tt
 
 pub put_decimal-requires : goal.put_decimal-requires
 put_decimal-requires c = tt

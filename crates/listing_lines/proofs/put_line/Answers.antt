@@ -22,29 +22,29 @@ shape_of-out c = printed_length (returns c)
 pub returns : goal.returns
 returns c = returns c
 
-pub put_byte-requires : goal.put_byte-requires
-put_byte-requires c = tt
+pub total-depth-requires : goal.total-depth-requires
+total-depth-requires c = tt
 
-pub put_byte-requires : goal.put_byte-requires
-put_byte-requires c = tt
+pub put_decimal-a-requires : goal.put_decimal-a-requires
+put_decimal-a-requires c = tt
 
-pub put_byte-requires : goal.put_byte-requires
-put_byte-requires c = tt
+pub put_byte-b-requires : goal.put_byte-b-requires
+put_byte-b-requires c = tt
 
-pub put_byte-requires : goal.put_byte-requires
-put_byte-requires c = tt
+pub put_byte-c-requires : goal.put_byte-c-requires
+put_byte-c-requires c = tt
 
-pub put_byte-requires : goal.put_byte-requires
-put_byte-requires c = tt
+pub u8_as_u64-requires : goal.u8_as_u64-requires
+u8_as_u64-requires c = tt
 
-pub put_byte-requires : goal.put_byte-requires
-put_byte-requires c = tt
+pub put_field-d-requires : goal.put_field-d-requires
+put_field-d-requires c = tt
 
-pub put_byte-requires : goal.put_byte-requires
-put_byte-requires c = tt
+pub put_field-e-requires : goal.put_field-e-requires
+put_field-e-requires c = tt
 
-pub put_byte-requires : goal.put_byte-requires
-put_byte-requires c = tt
+pub put_counts-f-requires : goal.put_counts-f-requires
+put_counts-f-requires c = tt
 
 pub put_byte-requires : goal.put_byte-requires
 put_byte-requires c = tt

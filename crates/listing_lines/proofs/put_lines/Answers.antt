@@ -69,11 +69,11 @@ returns c =
     printed_as c.loop-number.invariant.2
     (no_more c.loop-number.invariant.1 _ _ (lines_none called c.args.file.now c.loop-number.column (c.args.count - c.loop-number.number) (c.loop-number.number + 1) (omega arith)) c.loop-number.invariant.3)
 
-pub put_line-place-requires : goal.put_line-place-requires
-put_line-place-requires c = tt
+pub column_at-next-requires : goal.column_at-next-requires
+column_at-next-requires c = tt
 
-pub put_line-place-requires : goal.put_line-place-requires
-put_line-place-requires c = tt
+pub call_column-called-requires : goal.call_column-called-requires
+call_column-called-requires c = tt
 
 pub put_line-place-requires : goal.put_line-place-requires
 put_line-place-requires c = tt

@@ -59,14 +59,14 @@ pub returns : goal.returns
 returns c =
     printed_as c.loop-left.invariant.1 (no_more c.loop-left.invariant.0 _ _ (lines_none c.args.errors.now c.args.file.now c.loop-left.column c.loop-left.left (omega arith)) c.loop-left.invariant.2)
 
-pub put_byte-place-requires : goal.put_byte-place-requires
-put_byte-place-requires c = tt
+pub column_at-next-requires : goal.column_at-next-requires
+column_at-next-requires c = tt
 
-pub put_byte-place-requires : goal.put_byte-place-requires
-put_byte-place-requires c = tt
+pub errors_with-sum-requires : goal.errors_with-sum-requires
+errors_with-sum-requires c = tt
 
-pub put_byte-place-requires : goal.put_byte-place-requires
-put_byte-place-requires c = tt
+pub put_decimal-line_end-requires : goal.put_decimal-line_end-requires
+put_decimal-line_end-requires c = tt
 
 pub put_byte-place-requires : goal.put_byte-place-requires
 put_byte-place-requires c = tt

@@ -63,11 +63,11 @@ returns c =
     let called = column_call_with c.args.rows.now c.args.start (tables_of c.args.thresholds.now c.args.cerr-min.now c.args.cap) in
     printed_as c.loop-left.invariant.1 (no_more c.loop-left.invariant.0 _ _ (records_none called c.args.file.now c.loop-left.column c.loop-left.left (omega arith)) c.loop-left.invariant.2)
 
-pub put_record-place-requires : goal.put_record-place-requires
-put_record-place-requires c = tt
+pub column_at-next-requires : goal.column_at-next-requires
+column_at-next-requires c = tt
 
-pub put_record-place-requires : goal.put_record-place-requires
-put_record-place-requires c = tt
+pub call_column-called-requires : goal.call_column-called-requires
+call_column-called-requires c = tt
 
 pub put_record-place-requires : goal.put_record-place-requires
 put_record-place-requires c = tt

@@ -23,8 +23,8 @@ returns-in-AwaitsColumns c =
     let few : c.in-AwaitsColumns.left < most_columns = rw c.in-AwaitsColumns.is at c.requires in let said = rw c.in-AwaitsColumns.is
     (columns_code _ _ _ _ _ few c.rule_number.ensures c.u8_as_u64.ensures c.u8_as_u64-in-AwaitsColumns.ensures) in record { code = said.0; few = said.1 }
 
-pub overflow_add-result-in-AwaitsColumns-2 : goal.overflow_add-result-in-AwaitsColumns-2
-overflow_add-result-in-AwaitsColumns-2 c = let few : c.in-AwaitsColumns.left < most_columns = rw c.in-AwaitsColumns.is at c.requires in
+pub overflow_mul-result : goal.overflow_mul-result
+overflow_mul-result c = let few : c.in-AwaitsColumns.left < most_columns = rw c.in-AwaitsColumns.is at c.requires in
     omega (arith, few)
 
 pub overflow_add-result-in-AwaitsColumns-2 : goal.overflow_add-result-in-AwaitsColumns-2

@@ -18,8 +18,8 @@ loop-i-preserved c =
 pub returns : goal.returns
 returns c = rw (le-ltb _ _ c.if-digits-gt16.false) (sym (ends _ c.loop-i.i c.loop-i.n (omega arith)) ∙ c.loop-i.invariant.2)
 
-pub overflow_add-n : goal.overflow_add-n
-overflow_add-n c = let more : (16 * c.loop-i.n + c.digit-d.result < 16 ^ (c.loop-i.i + 1)) × (16 ^ (c.loop-i.i + 1) ≤ 2 ^ 64) = (more_digits c.loop-i.i c.loop-i.n _ c.loop-i.invariant.1 (omega arith), few_digits (c.loop-i.i + 1) (omega arith)) in
+pub overflow_mul-n : goal.overflow_mul-n
+overflow_mul-n c = let more : (16 * c.loop-i.n + c.digit-d.result < 16 ^ (c.loop-i.i + 1)) × (16 ^ (c.loop-i.i + 1) ≤ 2 ^ 64) = (more_digits c.loop-i.i c.loop-i.n _ c.loop-i.invariant.1 (omega arith), few_digits (c.loop-i.i + 1) (omega arith)) in
     omega (arith, more)
 
 pub overflow_add-n : goal.overflow_add-n

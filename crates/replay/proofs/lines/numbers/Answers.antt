@@ -1,6 +1,6 @@
 -- `numbers`: the numbers so far, after those of the fields that are left, are the numbers of all. The measure is how many are left. Assumes nothing.
 use Rattle.std.proofs.Common.{◌≡◌, ◌+◌, ◌-◌, take, drop, sym, refl, ◌∙◌, arith, length-set, eq-eqb, ne_eqb}
-use Rattle.replay.specs.Lines.{field_of, field_start, fields_from}
+use Rattle.replay.specs.Lines.{field_of, field_start, fields_from, numbers_of}
 use Rattle.replay.proofs.Numbers.{goes_on, stops}
 use Rattle.replay.proofs.lines.numbers.Goals as goal
 
@@ -21,10 +21,13 @@ returns c =
     rw z at c.loop-left.invariant.2
 
 pub returns-then-line-end : goal.returns-then-line-end
+unfolding numbers_of
 returns-then-line-end c = search ne_eqb
 
 pub returns-then-line-end-ne10 : goal.returns-then-line-end-ne10
+unfolding numbers_of
 returns-then-line-end-ne10 c = search (eq-eqb, ne_eqb)
 
 pub loop-left-init : goal.loop-left-init
+unfolding numbers_of
 loop-left-init c = (omega arith, refl, search eq-eqb)

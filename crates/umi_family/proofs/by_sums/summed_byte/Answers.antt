@@ -21,8 +21,8 @@ returns c =
 pub loop-k-init : goal.loop-k-init
 loop-k-init c = (omega arith, rw c.no_sums-sums.ensures)
 
-pub overflow_add-places-in-loop-k : goal.overflow_add-places-in-loop-k
-overflow_add-places-in-loop-k c = omega (arith, c.requires.2 c.loop-k.k (omega arith))
+pub overflow_add-places : goal.overflow_add-places
+overflow_add-places c = omega (arith, c.requires.2 c.loop-k.k (omega arith))
 
 pub overflow_add-places-in-loop-k : goal.overflow_add-places-in-loop-k
 overflow_add-places-in-loop-k c = omega (arith, c.requires.2 c.loop-k.k (omega arith))
@@ -30,8 +30,8 @@ overflow_add-places-in-loop-k c = omega (arith, c.requires.2 c.loop-k.k (omega a
 pub bounds-set-places : goal.bounds-set-places
 bounds-set-places c = omega (arith, c.requires.2 c.loop-k.k (omega arith))
 
-pub overflow_add-places-3 : goal.overflow_add-places-3
-overflow_add-places-3 c = omega (arith, c.requires.2 0 (omega arith))
+pub overflow_add-places-2 : goal.overflow_add-places-2
+overflow_add-places-2 c = omega (arith, c.requires.2 0 (omega arith))
 
 pub overflow_add-places-3 : goal.overflow_add-places-3
 overflow_add-places-3 c = omega (arith, c.requires.2 0 (omega arith))

@@ -18,8 +18,8 @@ returns-then-lead-lt4 c =
     rw (first_byte c.args.set.now c.args.places.now c.args.at c.requires.0.0, sym c.is_dna_base.ensures ∙ not-false _ c.if-not-is_dna_base.false)
     (c.base_of.ensures ∙ ap base_of (sym (c.requires.1 c.if-lead-lt4.true)))
 
-pub overflow_add-first-2 : goal.overflow_add-first-2
-overflow_add-first-2 c = omega (arith, c.requires.0.2 0 (omega arith))
+pub overflow_add-first : goal.overflow_add-first
+overflow_add-first c = omega (arith, c.requires.0.2 0 (omega arith))
 
 pub overflow_add-first-2 : goal.overflow_add-first-2
 overflow_add-first-2 c = omega (arith, c.requires.0.2 0 (omega arith))
