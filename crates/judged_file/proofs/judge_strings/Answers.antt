@@ -22,11 +22,11 @@ slice_bounds-consensus-start c =
 pub returns-in-Refused : goal.returns-in-Refused
 returns-in-Refused c =
     let file-at : FileAt (read_file c.args.file.now) c.args.places = let t = read_file c.args.file.now in read_accepted t (reading_of t) refl c.args.places c.requires in
-    let answered : Answered c.args.file.now c.args.places c.consensus-consensus.new.1.1.0 c.consensus-consensus.result.answer = let s = c.args.file.now in answer_said s c.args.places file-at _ _ (part_to_end s c.args.places.strings) c.default.ensures (c.consensus-consensus.ensures.fits (omega arith)) _ _ c.consensus-consensus.ensures.answer c.consensus-consensus.ensures.lent in
+    let answered : Answered c.args.file.now c.args.places c.consensus-consensus.new.out c.consensus-consensus.result.answer = let s = c.args.file.now in answer_said s c.args.places file-at _ _ (part_to_end s c.args.places.strings) c.default.ensures (c.consensus-consensus.ensures.fits (omega arith)) _ _ c.consensus-consensus.ensures.answer c.consensus-consensus.ensures.lent in
     let said = answer_refused _ _ _ _ answered _ c.in-Refused.is in record { judgement = said.0; text = said.1; short = omega arith }
 
 pub returns-in-Given : goal.returns-in-Given
 returns-in-Given c =
     let file-at : FileAt (read_file c.args.file.now) c.args.places = let t = read_file c.args.file.now in read_accepted t (reading_of t) refl c.args.places c.requires in
-    let answered : Answered c.args.file.now c.args.places c.consensus-consensus.new.1.1.0 c.consensus-consensus.result.answer = let s = c.args.file.now in answer_said s c.args.places file-at _ _ (part_to_end s c.args.places.strings) c.default.ensures (c.consensus-consensus.ensures.fits (omega arith)) _ _ c.consensus-consensus.ensures.answer c.consensus-consensus.ensures.lent in
+    let answered : Answered c.args.file.now c.args.places c.consensus-consensus.new.out c.consensus-consensus.result.answer = let s = c.args.file.now in answer_said s c.args.places file-at _ _ (part_to_end s c.args.places.strings) c.default.ensures (c.consensus-consensus.ensures.fits (omega arith)) _ _ c.consensus-consensus.ensures.answer c.consensus-consensus.ensures.lent in
     let said = answer_given _ _ _ _ answered _ _ c.in-Given.is in record { judgement = said.0; text = said.1; short = given_short c.consensus-consensus.result.answer _ _ c.in-Given.is c.consensus-consensus.ensures.short }

@@ -49,7 +49,7 @@ loop-number-preserved c =
     let line = line_with (c.loop-number.number + 1) (called (part_of s c.in-At.first c.in-At.n)) in
     let e = sym c.column_at-next.ensures.place ∙ c.in-At.is in
     let d : c.args.count - (c.loop-number.number + 1) ≡ c.args.count - c.loop-number.number - 1 = omega arith in
-    let p : Printed c.loop-number.out c.loop-number.place line c.put_line-place.new.0 c.put_line-place.result =
+    let p : Printed c.loop-number.out c.loop-number.place line c.put_line-place.new.out c.put_line-place.result =
     rw (← c.call_column-called.ensures) c.put_line-place.ensures in (
       omega (arith, c.loop-number-test.true),
       c.loop-number.invariant.1 ++ line,

@@ -43,7 +43,7 @@ loop-left-preserved c =
     let s = c.args.file.now in
     let line = decimal (errors_with c.args.errors.now (part_of s c.in-At.first c.in-At.n) % 2 ^ 64) ++ (newline ∷ []) in
     let e = sym c.column_at-next.ensures.place ∙ c.in-At.is in
-    let p : Printed c.loop-left.out c.loop-left.place line c.put_byte-place.new.0 c.put_byte-place.result =
+    let p : Printed c.loop-left.out c.loop-left.place line c.put_byte-place.new.out c.put_byte-place.result =
     print_then (printed_as c.put_decimal-line_end.ensures (ap decimal c.errors_with-sum.ensures)) c.put_byte-place.ensures in (
       c.loop-left.invariant.0 ++ line,
       print_then c.loop-left.invariant.1 p,

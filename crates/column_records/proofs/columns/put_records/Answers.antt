@@ -46,7 +46,7 @@ loop-left-preserved c =
     let called = column_call_with c.args.rows.now c.args.start (tables_of c.args.thresholds.now c.args.cerr-min.now c.args.cap) in
     let one = record_of (called (part_of s c.in-At.first c.in-At.n)) c.in-At.n in
     let e = sym c.column_at-next.ensures.place ∙ c.in-At.is in
-    let p : Printed c.loop-left.out c.loop-left.place one c.put_record-place.new.0 c.put_record-place.result =
+    let p : Printed c.loop-left.out c.loop-left.place one c.put_record-place.new.out c.put_record-place.result =
     rw (← c.call_column-called.ensures) c.put_record-place.ensures in (
       c.loop-left.invariant.0 ++ one,
       print_then c.loop-left.invariant.1 p,

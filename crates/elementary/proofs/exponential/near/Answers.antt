@@ -1,5 +1,4 @@
 use Prim.Native.Nat.{◌≤◌, ◌<◌}
-use mathlib.Core.Logic.{⊎_elim}
 use native.Mathlib.Omega.{arith}
 use borrow.Author.Tests.{le-leb, lt-leb, lt-ltb, le-ltb}
 use Rattle.float.proofs.Patterns.{no_nan}
@@ -7,6 +6,7 @@ use Rattle.elementary_tables.proofs.Heads.{head_from_1, head_below_2}
 use Rattle.elementary.specs.Exp.{near_of}
 use Rattle.elementary.proofs.Numbers.{steps_number}
 use Rattle.elementary.proofs.exponential.near.Goals as goal
+use Rattle.elementary.proofs.exponential.near.Goals.{then-n-ge-LEAST_SUM+then-n-lt-END_OF_SUMS+else-y, then-n-ge-LEAST_SUM+else-n-lt-END_OF_SUMS, else-n-ge-LEAST_SUM}
 
 pub float_to_bits-n : goal.float_to_bits-n
 float_to_bits-n c = rw (steps_number _ c.requires) tt
@@ -37,9 +37,9 @@ far-requires c = rw c.exp_row-e.ensures (head_below_2 _ (omega arith))
 pub returns : goal.returns
 unfolding near_of
 returns c =
-    ⊎_elim
-    (λ w. simp (← c.exp_row-e.ensures, ← c.series-t.ensures, ← w.3.ensures, le-leb _ _ w.0.true, lt-ltb _ _ w.1.true, w.4.false) c.far.ensures)
-    (⊎_elim
-    (λ w. simp (← c.exp_row-e.ensures, ← c.series-t.ensures, le-leb _ _ w.0.true, le-ltb _ _ w.1.false) c.far.ensures)
-    (λ w. simp (← c.exp_row-e.ensures, ← c.series-t.ensures, lt-leb _ _ w.false) c.far.ensures))
-    c.if-n-ge-LEAST_SUM.branch
+    elim c.if-n-ge-LEAST_SUM.branch [
+      then-n-ge-LEAST_SUM+then-n-lt-END_OF_SUMS+else-y w ↦
+        simp (← c.exp_row-e.ensures, ← c.series-t.ensures, ← w.fma_small_product-y.ensures, le-leb _ _ w.if-n-ge-LEAST_SUM.true, lt-ltb _ _ w.if-n-lt-END_OF_SUMS.true, w.if-y.false) c.far.ensures
+    | then-n-ge-LEAST_SUM+else-n-lt-END_OF_SUMS w ↦
+        simp (← c.exp_row-e.ensures, ← c.series-t.ensures, le-leb _ _ w.if-n-ge-LEAST_SUM.true, le-ltb _ _ w.if-n-lt-END_OF_SUMS.false) c.far.ensures
+    | else-n-ge-LEAST_SUM w ↦ simp (← c.exp_row-e.ensures, ← c.series-t.ensures, lt-leb _ _ w.if-n-ge-LEAST_SUM.false) c.far.ensures ]

@@ -1,6 +1,5 @@
 use mathlib.Core.Path.{◌≡◌, refl}
 use mathlib.Core.Bool.{true, false}
-use mathlib.Core.Logic.{⊎_elim}
 use lib.Ieee.{Float, lt, le, eq, neg, is_nan, of_bits}
 use Rattle.float.specs.Ops.{◌⊗◌, ◌⊘◌, bits, plus_zero, one}
 use Rattle.words.specs.Choice.{if◌then◌else◌}
@@ -9,6 +8,7 @@ use Rattle.float.proofs.Order.{lt_numbers, le_numbers, lt_trans, lt-le, lt_not_l
 use Rattle.elementary.specs.Ln.{normal_of, ln_of}
 use Rattle.elementary.proofs.Numbers.{lt_le_lt, not_nan_mul}
 use Rattle.elementary.proofs.logarithm.ln.Goals as goal
+use Rattle.elementary.proofs.logarithm.ln.Goals.{then-x+else-x-2, else-x+else-x-3+else-x-4}
 
 -- 0.9375 and 1.0647, the least normal number and the largest
 abbrev below_one : Float
@@ -79,7 +79,10 @@ returns-then-x-4 c =
 
 pub returns-then-x-5 : goal.returns-then-x-5
 returns-then-x-5 c =
-    let e = ⊎_elim (λ w. below-normal _ w.0.true w.1.false) (λ w. beyond-largest _ w.1.false w.2.false) c.if-x.branch in
+    let e : ln_of c.args.x ≡ edge_of c.args.x =
+      elim c.if-x.branch [
+        then-x+else-x-2 w ↦ below-normal _ w.if-x.true w.if-x-2.false
+      | else-x+else-x-3+else-x-4 w ↦ beyond-largest _ w.if-x-3.false w.if-x-4.false ] in
     rw (e, c.if-x-5.true)
 
 pub normal-requires-then-x-6 : goal.normal-requires-then-x-6
@@ -88,15 +91,24 @@ normal-requires-then-x-6 c = not_nan_mul _ _ tt (lt_numbers plus_zero _ c.if-x-6
 
 pub returns-then-x-6 : goal.returns-then-x-6
 returns-then-x-6 c =
-    let e = ⊎_elim (λ w. below-normal _ w.0.true w.1.false) (λ w. beyond-largest _ w.1.false w.2.false) c.if-x.branch in
+    let e : ln_of c.args.x ≡ edge_of c.args.x =
+      elim c.if-x.branch [
+        then-x+else-x-2 w ↦ below-normal _ w.if-x.true w.if-x-2.false
+      | else-x+else-x-3+else-x-4 w ↦ beyond-largest _ w.if-x-3.false w.if-x-4.false ] in
     rw (e, c.if-x-5.false, c.if-x-6.true) c.normal-then-x-6.ensures
 
 pub returns-then-x-7 : goal.returns-then-x-7
 returns-then-x-7 c =
-    let e = ⊎_elim (λ w. below-normal _ w.0.true w.1.false) (λ w. beyond-largest _ w.1.false w.2.false) c.if-x.branch in
+    let e : ln_of c.args.x ≡ edge_of c.args.x =
+      elim c.if-x.branch [
+        then-x+else-x-2 w ↦ below-normal _ w.if-x.true w.if-x-2.false
+      | else-x+else-x-3+else-x-4 w ↦ beyond-largest _ w.if-x-3.false w.if-x-4.false ] in
     rw (e, c.if-x-5.false, c.if-x-6.false, c.if-x-7.true)
 
 pub returns : goal.returns
 returns c =
-    let e = ⊎_elim (λ w. below-normal _ w.0.true w.1.false) (λ w. beyond-largest _ w.1.false w.2.false) c.if-x.branch in
+    let e : ln_of c.args.x ≡ edge_of c.args.x =
+      elim c.if-x.branch [
+        then-x+else-x-2 w ↦ below-normal _ w.if-x.true w.if-x-2.false
+      | else-x+else-x-3+else-x-4 w ↦ beyond-largest _ w.if-x-3.false w.if-x-4.false ] in
     rw (e, c.if-x-5.false, c.if-x-6.false, c.if-x-7.false)

@@ -515,4 +515,4 @@ returns-in-126 c = ap exp_row_of (sym c.in-126.is)
 
 pub returns-in_default : goal.returns-in_default
 unfolding exp_row_of of_bits neg
-returns-in_default c = rw (last 127 c.args.j c.in_default-own.rest)
+returns-in_default c = rw (last 127 c.args.j c.in_default.in_default-own.rest)

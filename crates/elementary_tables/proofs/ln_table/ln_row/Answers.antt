@@ -515,4 +515,4 @@ returns-in-126 c = ap ln_row_of (sym c.in-126.is)
 
 pub returns-in_default : goal.returns-in_default
 unfolding ln_row_of of_bits neg
-returns-in_default c = rw (last 127 c.args.i c.in_default-own.rest)
+returns-in_default c = rw (last 127 c.args.i c.in_default.in_default-own.rest)

@@ -42,7 +42,7 @@ loop-i-preserved c =
     let t = adjusted_of c.args.correct.now c.args.error-per-alt.now in
     let g = tables_of c.args.thresholds.now c.args.cerr-min.now c.args.cap in
     let w = if ltb (get_or s c.loop-i.i 0) 3 then [] else report_of g c.loop-i.progress in
-    let put : Put c.loop-i.out c.loop-i.at w c.put_item-at.new.1.0 c.put_item-at.result = c.put_item-at.ensures in (
+    let put : Put c.loop-i.out c.loop-i.at w c.put_item-at.new.out c.put_item-at.result = c.put_item-at.ensures in (
       omega arith,
       omega (arith, put.place, put_length {t = w} put, said_length g (get_or s c.loop-i.i 0) c.loop-i.progress, questions_at s c.loop-i.i c.loop-i-test.true, c.loop-i.invariant.1),
       rw c.pass_by-progress.ensures (put_before {t = w} _ put ∙ sym (ap (sets c.loop-i.out c.loop-i.at) (turn t g s c.loop-i.i c.loop-i.progress c.loop-i-test.true)) ∙ c.loop-i.invariant.2),

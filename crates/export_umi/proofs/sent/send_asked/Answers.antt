@@ -14,14 +14,14 @@ use Rattle.export_umi.proofs.sent.send_asked.Goals as goal
 pub slice_bounds-text-end : goal.slice_bounds-text-end
 slice_bounds-text-end c =
     let found : Result Found = asked_found c.args.question c.args.caller c.args.set.now room_for_string in
-    let inside : c.ask-asked.result.length ≤ length c.ask-asked.new.1.1.1.0 = text_inside room_for_string c.ask-asked.result.length _ found c.ask-asked.ensures.short (ap (λ (a : Asked). a.length) c.ask-asked.ensures.asked) c.ask-asked.ensures.lent in
+    let inside : c.ask-asked.result.length ≤ length c.ask-asked.new.text = text_inside room_for_string c.ask-asked.result.length _ found c.ask-asked.ensures.short (ap (λ (a : Asked). a.length) c.ask-asked.ensures.asked) c.ask-asked.ensures.lent in
     inside
 
 pub slice_bounds-send-end : goal.slice_bounds-send-end
 slice_bounds-send-end c =
     let found : Result Found = asked_found c.args.question c.args.caller c.args.set.now room_for_string in
-    let inside : c.ask-asked.result.length ≤ length c.ask-asked.new.1.1.1.0 = text_inside room_for_string c.ask-asked.result.length _ found c.ask-asked.ensures.short (ap (λ (a : Asked). a.length) c.ask-asked.ensures.asked) c.ask-asked.ensures.lent in
-    sym (length-take-le c.ask-asked.result.length c.ask-asked.new.1.1.1.0 inside)
+    let inside : c.ask-asked.result.length ≤ length c.ask-asked.new.text = text_inside room_for_string c.ask-asked.result.length _ found c.ask-asked.ensures.short (ap (λ (a : Asked). a.length) c.ask-asked.ensures.asked) c.ask-asked.ensures.lent in
+    sym (length-take-le c.ask-asked.result.length c.ask-asked.new.text inside)
 
 pub returns-then-code-lt256 : goal.returns-then-code-lt256
 returns-then-code-lt256 c =

@@ -18,7 +18,7 @@ use Rattle.simple_consensus.proofs.caller.consensus_umis.Goals as goal
 pub slice_bounds-places-end : goal.slice_bounds-places-end
 slice_bounds-places-end c =
     let setOf : List ℕ = c.args.set.now in
-    let places_of : List ℕ = c.read_places.new.1.0 in
+    let places_of : List ℕ = c.read_places.new.places in
     let count_of : ℕ = c.in-Strings.n in
     let stringsOf : List (List ℕ) = strings_at 0 setOf (take count_of places_of) in
     let strings : (read_set setOf ≡ accepted stringsOf) × (count_of ≤ length places_of) × Trimmed 0 setOf (take count_of places_of) = read_strings setOf places_of (replicate 255 0) c.read_places.result c.read_places.ensures count_of c.in-Strings.is in
@@ -27,7 +27,7 @@ slice_bounds-places-end c =
 pub slice_bounds-alike_consensus-end : goal.slice_bounds-alike_consensus-end
 slice_bounds-alike_consensus-end c =
     let setOf : List ℕ = c.args.set.now in
-    let places_of : List ℕ = c.read_places.new.1.0 in
+    let places_of : List ℕ = c.read_places.new.places in
     let count_of : ℕ = c.in-Strings.n in
     let stringsOf : List (List ℕ) = strings_at 0 setOf (take count_of places_of) in
     let strings : (read_set setOf ≡ accepted stringsOf) × (count_of ≤ length places_of) × Trimmed 0 setOf (take count_of places_of) = read_strings setOf places_of (replicate 255 0) c.read_places.result c.read_places.ensures count_of c.in-Strings.is in
@@ -36,7 +36,7 @@ slice_bounds-alike_consensus-end c =
 pub alike_consensus-called-requires : goal.alike_consensus-called-requires
 alike_consensus-called-requires c =
     let setOf : List ℕ = c.args.set.now in
-    let places_of : List ℕ = c.read_places.new.1.0 in
+    let places_of : List ℕ = c.read_places.new.places in
     let count_of : ℕ = c.in-Strings.n in
     let stringsOf : List (List ℕ) = strings_at 0 setOf (take count_of places_of) in
     let strings : (read_set setOf ≡ accepted stringsOf) × (count_of ≤ length places_of) × Trimmed 0 setOf (take count_of places_of) = read_strings setOf places_of (replicate 255 0) c.read_places.result c.read_places.ensures count_of c.in-Strings.is in
@@ -44,12 +44,12 @@ alike_consensus-called-requires c =
 
 pub returns-in-Refused : goal.returns-in-Refused
 returns-in-Refused c =
-    let e = read-refused c.args.set.now c.read_places.new.1.0 (replicate 255 0) c.read_places.result c.read_places.ensures _ c.in-Refused.is in let said = rw (umis_in_refused c.args.set.now c.args.out.now _ e) (refl, (refl, (omega arith, refl))) in record { answer = said.0; lent = said.1.0; short = said.1.1.0; number = said.1.1.1 }
+    let e = read-refused c.args.set.now c.read_places.new.places (replicate 255 0) c.read_places.result c.read_places.ensures _ c.in-Refused.is in let said = rw (umis_in_refused c.args.set.now c.args.out.now _ e) (refl, (refl, (omega arith, refl))) in record { answer = said.0; lent = said.1.0; short = said.1.1.0; number = said.1.1.1 }
 
 pub returns-in-Strings : goal.returns-in-Strings
 returns-in-Strings c =
     let setOf : List ℕ = c.args.set.now in
-    let places_of : List ℕ = c.read_places.new.1.0 in
+    let places_of : List ℕ = c.read_places.new.places in
     let count_of : ℕ = c.in-Strings.n in
     let stringsOf : List (List ℕ) = strings_at 0 setOf (take count_of places_of) in
     let strings : (read_set setOf ≡ accepted stringsOf) × (count_of ≤ length places_of) × Trimmed 0 setOf (take count_of places_of) = read_strings setOf places_of (replicate 255 0) c.read_places.result c.read_places.ensures count_of c.in-Strings.is in

@@ -22,7 +22,7 @@ pub slice_bounds-text-end : goal.slice_bounds-text-end
 slice_bounds-text-end c =
     let strings : List (List ℕ) = strings_at 0 c.args.set.now c.args.places.now in
     let count_of : ℕ = c.in-Given.n in
-    let text_of : List ℕ = c.strand_consensus-a.new.1.1.1.1.0 in
+    let text_of : List ℕ = c.strand_consensus-a.new.text in
     let few : count_of ≤ 255 = let caller = (start_of c).args.caller in let n = group_few c.strand_consensus-a.result caller (consensus_of caller (strand_of 65 (strings (start_of c)))) c.strand_consensus-a.ensures.group _ _ c.in-Given.is in omega (arith, c.strand_consensus-a.ensures.few, n) in
     let inside : count_of ≤ length text_of = let size : length text_of ≡ 255 = c.strand_consensus-a.auto.1.1.1.1.0 in omega (arith, few) in
     inside
@@ -31,7 +31,7 @@ pub slice_bounds-second_strand-end : goal.slice_bounds-second_strand-end
 slice_bounds-second_strand-end c =
     let strings : List (List ℕ) = strings_at 0 c.args.set.now c.args.places.now in
     let count_of : ℕ = c.in-Given.n in
-    let text_of : List ℕ = c.strand_consensus-a.new.1.1.1.1.0 in
+    let text_of : List ℕ = c.strand_consensus-a.new.text in
     let few : count_of ≤ 255 = let caller = (start_of c).args.caller in let n = group_few c.strand_consensus-a.result caller (consensus_of caller (strand_of 65 (strings (start_of c)))) c.strand_consensus-a.ensures.group _ _ c.in-Given.is in omega (arith, c.strand_consensus-a.ensures.few, n) in
     let inside : count_of ≤ length text_of = let size : length text_of ≡ 255 = c.strand_consensus-a.auto.1.1.1.1.0 in omega (arith, few) in
     let text : length (take count_of text_of) ≡ count_of = length-take-le count_of text_of inside in
@@ -41,7 +41,7 @@ pub second_strand-requires : goal.second_strand-requires
 second_strand-requires c =
     let strings : List (List ℕ) = strings_at 0 c.args.set.now c.args.places.now in
     let count_of : ℕ = c.in-Given.n in
-    let text_of : List ℕ = c.strand_consensus-a.new.1.1.1.1.0 in
+    let text_of : List ℕ = c.strand_consensus-a.new.text in
     let few : count_of ≤ 255 = let caller = (start_of c).args.caller in let n = group_few c.strand_consensus-a.result caller (consensus_of caller (strand_of 65 (strings (start_of c)))) c.strand_consensus-a.ensures.group _ _ c.in-Given.is in omega (arith, c.strand_consensus-a.ensures.few, n) in
     let inside : count_of ≤ length text_of = let size : length text_of ≡ 255 = c.strand_consensus-a.auto.1.1.1.1.0 in omega (arith, few) in
     let text : length (take count_of text_of) ≡ count_of = length-take-le count_of text_of inside in
@@ -58,7 +58,7 @@ pub returns-in-Given : goal.returns-in-Given
 returns-in-Given c =
     let strings : List (List ℕ) = strings_at 0 c.args.set.now c.args.places.now in
     let count_of : ℕ = c.in-Given.n in
-    let text_of : List ℕ = c.strand_consensus-a.new.1.1.1.1.0 in
+    let text_of : List ℕ = c.strand_consensus-a.new.text in
     let few : count_of ≤ 255 = let caller = (start_of c).args.caller in let n = group_few c.strand_consensus-a.result caller (consensus_of caller (strand_of 65 (strings (start_of c)))) c.strand_consensus-a.ensures.group _ _ c.in-Given.is in omega (arith, c.strand_consensus-a.ensures.few, n) in
     let start = start_of c in
     let caller = start.args.caller in

@@ -20,7 +20,7 @@ pub slice_bounds-other-end : goal.slice_bounds-other-end
 slice_bounds-other-end c =
     let strings : List (List ℕ) = strings_at 0 c.args.set.now c.args.places.now in
     let count_of : ℕ = c.in-Given.n in
-    let text_of : List ℕ = c.strand_consensus-b.new.1.1.1.1.0 in
+    let text_of : List ℕ = c.strand_consensus-b.new.text in
     let few : count_of ≤ 255 = let caller = (start_of c).args.caller in let n = group_few c.strand_consensus-b.result caller (consensus_of caller (strand_of 66 (strings (start_of c)))) c.strand_consensus-b.ensures.group _ _ c.in-Given.is in omega (arith, c.strand_consensus-b.ensures.few, n) in
     let inside : count_of ≤ length text_of = let size : length text_of ≡ 255 = c.strand_consensus-b.auto.1.1.1.1.0 in omega (arith, few) in
     inside
@@ -29,7 +29,7 @@ pub slice_bounds-put_either-end : goal.slice_bounds-put_either-end
 slice_bounds-put_either-end c =
     let strings : List (List ℕ) = strings_at 0 c.args.set.now c.args.places.now in
     let count_of : ℕ = c.in-Given.n in
-    let text_of : List ℕ = c.strand_consensus-b.new.1.1.1.1.0 in
+    let text_of : List ℕ = c.strand_consensus-b.new.text in
     let few : count_of ≤ 255 = let caller = (start_of c).args.caller in let n = group_few c.strand_consensus-b.result caller (consensus_of caller (strand_of 66 (strings (start_of c)))) c.strand_consensus-b.ensures.group _ _ c.in-Given.is in omega (arith, c.strand_consensus-b.ensures.few, n) in
     let inside : count_of ≤ length text_of = let size : length text_of ≡ 255 = c.strand_consensus-b.auto.1.1.1.1.0 in omega (arith, few) in
     let text : length (take count_of text_of) ≡ count_of = length-take-le count_of text_of inside in
@@ -45,7 +45,7 @@ pub returns-in-Given : goal.returns-in-Given
 returns-in-Given c =
     let strings : List (List ℕ) = strings_at 0 c.args.set.now c.args.places.now in
     let count_of : ℕ = c.in-Given.n in
-    let text_of : List ℕ = c.strand_consensus-b.new.1.1.1.1.0 in
+    let text_of : List ℕ = c.strand_consensus-b.new.text in
     let few : count_of ≤ 255 = let caller = (start_of c).args.caller in let n = group_few c.strand_consensus-b.result caller (consensus_of caller (strand_of 66 (strings (start_of c)))) c.strand_consensus-b.ensures.group _ _ c.in-Given.is in omega (arith, c.strand_consensus-b.ensures.few, n) in
     let inside : count_of ≤ length text_of = let size : length text_of ≡ 255 = c.strand_consensus-b.auto.1.1.1.1.0 in omega (arith, few) in
     let text : length (take count_of text_of) ≡ count_of = length-take-le count_of text_of inside in

@@ -12,11 +12,11 @@ use Rattle.simple_umi.proofs.duplex.strand_consensus.Goals as goal
 
 pub slice_bounds-group_consensus-end : goal.slice_bounds-group_consensus-end
 slice_bounds-group_consensus-end c =
-    sym (length-take-le c.strand_places-n.result c.strand_places-n.new.1.1.1.0 c.strand_places-n.ensures.inside.0)
+    sym (length-take-le c.strand_places-n.result c.strand_places-n.new.kept c.strand_places-n.ensures.inside.0)
 
 pub returns : goal.returns
 returns c =
-    let places = take c.strand_places-n.result c.strand_places-n.new.1.1.1.0 in
+    let places = take c.strand_places-n.result c.strand_places-n.new.kept in
     let said : group_by c.args.caller 2 c.args.set.now places ≡ consensus_of c.args.caller (strand_of c.args.letter (strings_at 0 c.args.set.now c.args.places.now)) =
     group_said c.args.caller 2 c.args.set.now places c.strand_places-n.ensures.inside.1 ∙ ap (consensus_of c.args.caller) c.strand_places-n.ensures.strings in
     let fits = room_fits c.args.text.now (group_by c.args.caller 2 c.args.set.now places) (omega (arith, c.group_consensus.ensures.few, c.requires.0)) in let said = rw (← said) (rw fits at c.group_consensus.ensures) in record { group = said.0; lent = said.1.0; few = said.1.1 }

@@ -44,10 +44,10 @@ loop-k-preserved c =
     let size = row_size s from w (c.requires.1.2 c.loop-k.k h) in
     (
       omega arith,
-      done_more 0 w s ps c.loop-k.k c.loop-k.a c.loop-k.invariant.1 h _ same size c.count_row.new.1.0 c.count_row.ensures.a,
-      done_more 1 w s ps c.loop-k.k c.loop-k.c c.loop-k.invariant.2 h _ same size c.count_row.new.1.1.0 c.count_row.ensures.c,
-      done_more 2 w s ps c.loop-k.k c.loop-k.g c.loop-k.invariant.3 h _ same size c.count_row.new.1.1.1.0 c.count_row.ensures.g,
-      done_more 3 w s ps c.loop-k.k c.loop-k.t c.loop-k.invariant.4 h _ same size c.count_row.new.1.1.1.1.0 c.count_row.ensures.t,
+      done_more 0 w s ps c.loop-k.k c.loop-k.a c.loop-k.invariant.1 h _ same size c.count_row.new.a c.count_row.ensures.a,
+      done_more 1 w s ps c.loop-k.k c.loop-k.c c.loop-k.invariant.2 h _ same size c.count_row.new.c c.count_row.ensures.c,
+      done_more 2 w s ps c.loop-k.k c.loop-k.g c.loop-k.invariant.3 h _ same size c.count_row.new.g c.count_row.ensures.g,
+      done_more 3 w s ps c.loop-k.k c.loop-k.t c.loop-k.invariant.4 h _ same size c.count_row.new.t c.count_row.ensures.t,
     )
 
 pub call_leads-requires : goal.call_leads-requires
