@@ -41,4 +41,4 @@ returns-in-6 c = rw c.in-6.is
 
 pub returns-in_default : goal.returns-in_default
 unfolding byte_in_number
-returns-in_default c = rw (seven _ (last 7 _ c.in_default-own.rest) c.requires)
+returns-in_default c = rw (seven _ (last 7 _ c.in_default.in_default-own.rest) c.requires)

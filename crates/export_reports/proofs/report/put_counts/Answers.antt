@@ -8,15 +8,15 @@ use Rattle.export_reports.proofs.report.put_counts.Goals as goal
 
 pub put_number-c-requires : goal.put_number-c-requires
 put_number-c-requires c =
-    omega (arith, c.put_number-a.ensures.place, bytes_length 4 (get_or c.args.t3 0 0))
+    omega (arith, c.put_number-a.ensures.place, bytes_length 4 (get_or c.args.observations 0 0))
 
 pub put_number-g-requires : goal.put_number-g-requires
 put_number-g-requires c =
-    omega (arith, c.put_number-a.ensures.place, c.put_number-c.ensures.place, bytes_length 4 (get_or c.args.t3 0 0), bytes_length 4 (get_or c.args.t3 1 0))
+    omega (arith, c.put_number-a.ensures.place, c.put_number-c.ensures.place, bytes_length 4 (get_or c.args.observations 0 0), bytes_length 4 (get_or c.args.observations 1 0))
 
 pub put_number-requires : goal.put_number-requires
 put_number-requires c =
-    omega (arith, c.put_number-a.ensures.place, c.put_number-c.ensures.place, c.put_number-g.ensures.place, bytes_length 4 (get_or c.args.t3 0 0), bytes_length 4 (get_or c.args.t3 1 0), bytes_length 4 (get_or c.args.t3 2 0))
+    omega (arith, c.put_number-a.ensures.place, c.put_number-c.ensures.place, c.put_number-g.ensures.place, bytes_length 4 (get_or c.args.observations 0 0), bytes_length 4 (get_or c.args.observations 1 0), bytes_length 4 (get_or c.args.observations 2 0))
 
 -- the puts, one after another
 pub returns : goal.returns

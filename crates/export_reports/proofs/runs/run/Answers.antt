@@ -20,12 +20,12 @@ returns-then-rule-gt1 c =
 
 pub returns-then-not-is_script : goal.returns-then-not-is_script
 returns-then-not-is_script c =
-    let e = bad_script c.args.pre.0 c.args.post.0 c.args.rule c.args.script.now c.args.builder c.if-rule-gt1.false (sym c.is_script.ensures ∙ not-true c.is_script.result c.if-not-is_script.true) in record { reply = none_replied _ _ e; lent = none_written _ _ e }
+    let e = bad_script c.args.pre.0 c.args.post.0 c.args.rule c.args.script.now c.args.builder c.if-rule-gt1.false (sym c.is_script.ensures ∙ c.if-not-is_script.true) in record { reply = none_replied _ _ e; lent = none_written _ _ e }
 
 pub returns-then-out-n : goal.returns-then-out-n
 returns-then-out-n c =
     let asks : List ℕ = script_bytes c.args.pre.0 c.args.post.0 c.args.rule c.args.script.now c.args.builder in
-    let whole : asks ≡ reports (adjusted_tables c.args.post.0) (gap_tables c.args.pre.0) (items c.args.script.now) (script_start c.args.rule c.args.builder) = good c.args.pre.0 c.args.post.0 c.args.rule c.args.script.now c.args.builder c.if-rule-gt1.false (sym c.is_script.ensures ∙ not-false c.is_script.result c.if-not-is_script.false) in
+    let whole : asks ≡ reports (adjusted_tables c.args.post.0) (gap_tables c.args.pre.0) (items c.args.script.now) (script_start c.args.rule c.args.builder) = good c.args.pre.0 c.args.post.0 c.args.rule c.args.script.now c.args.builder c.if-rule-gt1.false (sym c.is_script.ensures ∙ c.if-not-is_script.false) in
     let size : length asks ≡ 91 * c.questions_in-n.result = ap length whole ∙ reports_length (adjusted_tables c.args.post.0) (gap_tables c.args.pre.0) (items c.args.script.now) (script_start c.args.rule c.args.builder) ∙ ap (λ (n : ℕ). 91 * n) (sym c.questions_in-n.ensures) in
     let out = c.args.out.now in
     let l = size in
@@ -34,7 +34,7 @@ returns-then-out-n c =
 pub put_script-requires : goal.put_script-requires
 put_script-requires c =
     let asks : List ℕ = script_bytes c.args.pre.0 c.args.post.0 c.args.rule c.args.script.now c.args.builder in
-    let whole : asks ≡ reports (adjusted_tables c.args.post.0) (gap_tables c.args.pre.0) (items c.args.script.now) (script_start c.args.rule c.args.builder) = good c.args.pre.0 c.args.post.0 c.args.rule c.args.script.now c.args.builder c.if-rule-gt1.false (sym c.is_script.ensures ∙ not-false c.is_script.result c.if-not-is_script.false) in
+    let whole : asks ≡ reports (adjusted_tables c.args.post.0) (gap_tables c.args.pre.0) (items c.args.script.now) (script_start c.args.rule c.args.builder) = good c.args.pre.0 c.args.post.0 c.args.rule c.args.script.now c.args.builder c.if-rule-gt1.false (sym c.is_script.ensures ∙ c.if-not-is_script.false) in
     let size : length asks ≡ 91 * c.questions_in-n.result = ap length whole ∙ reports_length (adjusted_tables c.args.post.0) (gap_tables c.args.pre.0) (items c.args.script.now) (script_start c.args.rule c.args.builder) ∙ ap (λ (n : ℕ). 91 * n) (sym c.questions_in-n.ensures) in
     let room : length asks ≤ length c.args.out.now = omega (arith, size, c.if-out-n.false) in
     rw (c.with_tie_rule.ensures, c.rule_of.ensures, ← whole) room
@@ -47,7 +47,7 @@ overflow_mul-result c =
 pub returns : goal.returns
 returns c =
     let asks : List ℕ = script_bytes c.args.pre.0 c.args.post.0 c.args.rule c.args.script.now c.args.builder in
-    let whole : asks ≡ reports (adjusted_tables c.args.post.0) (gap_tables c.args.pre.0) (items c.args.script.now) (script_start c.args.rule c.args.builder) = good c.args.pre.0 c.args.post.0 c.args.rule c.args.script.now c.args.builder c.if-rule-gt1.false (sym c.is_script.ensures ∙ not-false c.is_script.result c.if-not-is_script.false) in
+    let whole : asks ≡ reports (adjusted_tables c.args.post.0) (gap_tables c.args.pre.0) (items c.args.script.now) (script_start c.args.rule c.args.builder) = good c.args.pre.0 c.args.post.0 c.args.rule c.args.script.now c.args.builder c.if-rule-gt1.false (sym c.is_script.ensures ∙ c.if-not-is_script.false) in
     let size : length asks ≡ 91 * c.questions_in-n.result = ap length whole ∙ reports_length (adjusted_tables c.args.post.0) (gap_tables c.args.pre.0) (items c.args.script.now) (script_start c.args.rule c.args.builder) ∙ ap (λ (n : ℕ). 91 * n) (sym c.questions_in-n.ensures) in
     let room : length asks ≤ length c.args.out.now = omega (arith, size, c.if-out-n.false) in
     let o = c.args.out.now in record { reply = sym size ∙ fits_replied asks o room; lent = rw (c.with_tie_rule.ensures, c.rule_of.ensures, ← whole) at c.put_script.ensures ∙ fits_written asks o room }

@@ -15,13 +15,13 @@ loop-i-init c = (omega arith, refl)
 pub returns-then-not-is_item : goal.returns-then-not-is_item
 returns-then-not-is_item c =
     let s = c.args.script.now in
-    let e = sym c.is_item.ensures ∙ not-true c.is_item.result c.if-not-is_item.true in
+    let e = sym c.is_item.ensures ∙ c.if-not-is_item.true in
     sym (sym c.loop-i.invariant.1 ∙ script_more s c.loop-i.i c.loop-i-test.true c.args.most ∙ ap (λ (b : Bool). b && is_script c.args.most (drop (c.loop-i.i + 3) s)) e)
 
 pub loop-i-preserved : goal.loop-i-preserved
 loop-i-preserved c =
     let s = c.args.script.now in
-    let e = sym c.is_item.ensures ∙ not-false c.is_item.result c.if-not-is_item.false in
+    let e = sym c.is_item.ensures ∙ c.if-not-is_item.false in
     (omega arith, sym (script_more s c.loop-i.i c.loop-i-test.true c.args.most ∙ ap (λ (b : Bool). b && is_script c.args.most (drop (c.loop-i.i + 3) s)) e) ∙ c.loop-i.invariant.1)
 
 pub returns : goal.returns

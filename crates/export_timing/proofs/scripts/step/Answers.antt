@@ -20,4 +20,4 @@ returns-in-2 c = rw (c.in-2.is, ← c.rule_of.ensures) c.set_tie_rule.ensures
 
 pub returns-in_default : goal.returns-in_default
 unfolding stepped
-returns-in_default c = rw (no_arm _ _ _ (last 3 _ c.in_default-own.rest))
+returns-in_default c = rw (no_arm _ _ _ (last 3 _ c.in_default.in_default-own.rest))

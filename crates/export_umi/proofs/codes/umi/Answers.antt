@@ -39,4 +39,4 @@ returns-in-3 c = let said = rw c.in-3.is
 
 pub returns-in_default : goal.returns-in_default
 unfolding umi_reply umi_buffer
-returns-in_default c = let said = rw (ne_eqb _ 0 c.in_default-own.rest.0.0.0.1, ne_eqb _ 1 c.in_default-own.rest.0.0.1, ne_eqb _ 2 c.in_default-own.rest.0.1, ne_eqb _ 3 c.in_default-own.rest.1) (refl, refl) in record { reply = said.0; lent = said.1 }
+returns-in_default c = let said = rw (ne_eqb _ 0 c.in_default.in_default-own.rest.0.0.0.1, ne_eqb _ 1 c.in_default.in_default-own.rest.0.0.1, ne_eqb _ 2 c.in_default.in_default-own.rest.0.1, ne_eqb _ 3 c.in_default.in_default-own.rest.1) (refl, refl) in record { reply = said.0; lent = said.1 }

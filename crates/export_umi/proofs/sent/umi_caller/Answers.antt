@@ -18,4 +18,4 @@ returns-in-3 c = let said = rw (c.in-3.is, ← c.new-caller.ensures) c.send_aske
 
 pub returns-in_default : goal.returns-in_default
 unfolding caller_reply caller_buffer
-returns-in_default c = let said = rw (ne_eqb _ 0 c.in_default-own.rest.0.0.1, ne_eqb _ 1 c.in_default-own.rest.0.1, ne_eqb _ 3 c.in_default-own.rest.1) (refl, refl) in record { reply = said.0; lent = said.1 }
+returns-in_default c = let said = rw (ne_eqb _ 0 c.in_default.in_default-own.rest.0.0.1, ne_eqb _ 1 c.in_default.in_default-own.rest.0.1, ne_eqb _ 3 c.in_default.in_default-own.rest.1) (refl, refl) in record { reply = said.0; lent = said.1 }

@@ -20,4 +20,4 @@ returns-in-3 c = let said = rw (c.in-3.is, ← c.new-caller.ensures) c.answer_se
 
 pub returns-in_default : goal.returns-in_default
 unfolding umiSetsBytes
-returns-in_default c = let said = rw (ne_eqb _ 0 c.in_default-own.rest.0.0.1, ne_eqb _ 1 c.in_default-own.rest.0.1, ne_eqb _ 3 c.in_default-own.rest.1) (none_replied [] _ refl, none_written [] _ refl) in record { reply = said.0; lent = said.1 }
+returns-in_default c = let said = rw (ne_eqb _ 0 c.in_default.in_default-own.rest.0.0.1, ne_eqb _ 1 c.in_default.in_default-own.rest.0.1, ne_eqb _ 3 c.in_default.in_default-own.rest.1) (none_replied [] _ refl, none_written [] _ refl) in record { reply = said.0; lent = said.1 }

@@ -19,4 +19,4 @@ returns-in-2 c = rw (c.in-2.is, c.set_tie_rule.ensures, c.rule_of.ensures)
 
 pub returns-in_default : goal.returns-in_default
 unfolding passed
-returns-in_default c = rw (no_arm _ _ _ (last 3 _ c.in_default-own.rest))
+returns-in_default c = rw (no_arm _ _ _ (last 3 _ c.in_default.in_default-own.rest))

@@ -11,7 +11,7 @@ use Rattle.phred.proofs.four_lanes.ln_sum_exp_lanes.Goals as goal
 pub returns-then-d-three : goal.returns-then-d-three
 unfolding ln_sum_exp_lanes
 returns-then-d-three c =
-    let xs = c.args.t1 in
+    let xs = c.args.values in
     let n : length xs ≡ 4 = search rules in
     let r : c.ln_sum_exp_four.result ≡ ln_sum_exp_lanes (get_or xs 0 nan) (get_or xs 1 nan) (get_or xs 2 nan) (get_or xs 3 nan) = rw (← c.first_two.ensures, ← c.first_three-three.ensures, c.if-d-three.true) c.ln_sum_exp_four.ensures in
     r ∙ four_lanes _ _ _ _ ∙ sym (ap ln_sum_exp_array (four_of xs n))
@@ -19,7 +19,7 @@ returns-then-d-three c =
 pub returns : goal.returns
 unfolding ln_sum_exp_lanes
 returns c =
-    let xs = c.args.t1 in
+    let xs = c.args.values in
     let n : length xs ≡ 4 = search rules in
     let r : c.ln_sum_exp_four-2.result ≡ ln_sum_exp_lanes (get_or xs 0 nan) (get_or xs 1 nan) (get_or xs 2 nan) (get_or xs 3 nan) = rw (← c.first_two.ensures, ← c.first_three-three.ensures, c.if-d-three.false) c.ln_sum_exp_four-2.ensures in
     r ∙ four_lanes _ _ _ _ ∙ sym (ap ln_sum_exp_array (four_of xs n))

@@ -30,4 +30,4 @@ unfolding base_of
 returns-in-3 c = rw c.in-3.is
 
 pub returns-in_default : goal.returns-in_default
-returns-in_default c = sym (past _ (last 4 _ c.in_default-own.rest))
+returns-in_default c = sym (past _ (last 4 _ c.in_default.in_default-own.rest))

@@ -25,12 +25,12 @@ pub returns-in_default : goal.returns-in_default
 unfolding lane_of_byte
 returns-in_default c =
     rw (
-      ne_eqb _ 65 (λ e. c.in_default-own.rest.0.0.0.1 (inl e)),
-      ne_eqb _ 97 (λ e. c.in_default-own.rest.0.0.0.1 (inr e)),
-      ne_eqb _ 67 (λ e. c.in_default-own.rest.0.0.1 (inl e)),
-      ne_eqb _ 99 (λ e. c.in_default-own.rest.0.0.1 (inr e)),
-      ne_eqb _ 71 (λ e. c.in_default-own.rest.0.1 (inl e)),
-      ne_eqb _ 103 (λ e. c.in_default-own.rest.0.1 (inr e)),
-      ne_eqb _ 84 (λ e. c.in_default-own.rest.1 (inl e)),
-      ne_eqb _ 116 (λ e. c.in_default-own.rest.1 (inr e)),
+      ne_eqb _ 65 (λ e. c.in_default.in_default-own.rest.0.0.0.1 (inl e)),
+      ne_eqb _ 97 (λ e. c.in_default.in_default-own.rest.0.0.0.1 (inr e)),
+      ne_eqb _ 67 (λ e. c.in_default.in_default-own.rest.0.0.1 (inl e)),
+      ne_eqb _ 99 (λ e. c.in_default.in_default-own.rest.0.0.1 (inr e)),
+      ne_eqb _ 71 (λ e. c.in_default.in_default-own.rest.0.1 (inl e)),
+      ne_eqb _ 103 (λ e. c.in_default.in_default-own.rest.0.1 (inr e)),
+      ne_eqb _ 84 (λ e. c.in_default.in_default-own.rest.1 (inl e)),
+      ne_eqb _ 116 (λ e. c.in_default.in_default-own.rest.1 (inr e)),
     )

@@ -15,10 +15,10 @@ loop-j-init c = (omega arith, refl)
 
 pub returns-then-not-apart : goal.returns-then-not-apart
 unfolding untied
-returns-then-not-apart c = sym (below_stop 4 _ c.loop-j.j c.loop-j-test.true (sym c.apart.ensures ∙ not-true c.apart.result c.if-not-apart.true))
+returns-then-not-apart c = sym (below_stop 4 _ c.loop-j.j c.loop-j-test.true (sym c.apart.ensures ∙ c.if-not-apart.true))
 
 pub loop-j-preserved : goal.loop-j-preserved
-loop-j-preserved c = (omega arith, below_on _ _ c.loop-j.invariant.1 (sym c.apart.ensures ∙ not-false c.apart.result c.if-not-apart.false))
+loop-j-preserved c = (omega arith, below_on _ _ c.loop-j.invariant.1 (sym c.apart.ensures ∙ c.if-not-apart.false))
 
 pub returns : goal.returns
 unfolding untied

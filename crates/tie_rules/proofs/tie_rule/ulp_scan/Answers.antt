@@ -15,9 +15,9 @@ loop-i-init c = (omega arith, refl)
 pub loop-i-preserved : goal.loop-i-preserved
 unfolding scan
 loop-i-preserved c =
-    (omega arith, rw (add-one c.loop-i.i) (c.ulp_step-run.ensures ∙ ap (λ (r : Scan). ulp_step r c.loop-i.i (lane c.args.t1 c.loop-i.i)) c.loop-i.invariant.1))
+    (omega arith, rw (add-one c.loop-i.i) (c.ulp_step-run.ensures ∙ ap (λ (r : Scan). ulp_step r c.loop-i.i (lane c.args.likelihoods c.loop-i.i)) c.loop-i.invariant.1))
 
 pub returns : goal.returns
 returns c =
     let i : c.loop-i.i ≡ 4 = omega arith in
-    c.loop-i.invariant.1 ∙ ap (scan ulp_step below_every c.args.t1) i
+    c.loop-i.invariant.1 ∙ ap (scan ulp_step below_every c.args.likelihoods) i

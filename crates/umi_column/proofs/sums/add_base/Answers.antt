@@ -8,7 +8,7 @@ use Rattle.umi_column.proofs.sums.add_base.Goals as goal
 
 pub returns-then-not-is_base : goal.returns-then-not-is_base
 unfolding summed_by
-returns-then-not-is_base c = rw (sym c.is_base.ensures ∙ not-true _ c.if-not-is_base.true)
+returns-then-not-is_base c = rw (sym c.is_base.ensures ∙ c.if-not-is_base.true)
 
 pub returns : goal.returns
 unfolding summed_by lanes

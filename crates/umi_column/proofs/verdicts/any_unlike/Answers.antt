@@ -30,7 +30,7 @@ loop-i-init c = (omega arith, refl)
 pub returns-then-not-is_dna_base : goal.returns-then-not-is_dna_base
 returns-then-not-is_dna_base c =
     any_found (is_unlike c.args.first) c.args.column.now 0 c.loop-i.i (omega arith)
-    (unlike c.args.first _ c.if-b-first.true (sym c.is_dna_base.ensures ∙ not-true _ c.if-not-is_dna_base.true)) ∙ c.loop-i.invariant.1
+    (unlike c.args.first _ c.if-b-first.true (sym c.is_dna_base.ensures ∙ c.if-not-is_dna_base.true)) ∙ c.loop-i.invariant.1
 
 pub loop-i-preserved : goal.loop-i-preserved
 loop-i-preserved c =

@@ -10,12 +10,12 @@ use Rattle.umi_family.proofs.leads.led_byte.Goals as goal
 pub returns-then-not-is_dna_base : goal.returns-then-not-is_dna_base
 unfolding byte_by
 returns-then-not-is_dna_base c =
-    rw (first_byte c.args.set.now c.args.places.now c.args.at c.requires.0.0, sym c.is_dna_base.ensures ∙ not-true _ c.if-not-is_dna_base.true)
+    rw (first_byte c.args.set.now c.args.places.now c.args.at c.requires.0.0, sym c.is_dna_base.ensures ∙ c.if-not-is_dna_base.true)
 
 pub returns-then-lead-lt4 : goal.returns-then-lead-lt4
 unfolding byte_by
 returns-then-lead-lt4 c =
-    rw (first_byte c.args.set.now c.args.places.now c.args.at c.requires.0.0, sym c.is_dna_base.ensures ∙ not-false _ c.if-not-is_dna_base.false)
+    rw (first_byte c.args.set.now c.args.places.now c.args.at c.requires.0.0, sym c.is_dna_base.ensures ∙ c.if-not-is_dna_base.false)
     (c.base_of.ensures ∙ ap base_of (sym (c.requires.1 c.if-lead-lt4.true)))
 
 pub overflow_add-first : goal.overflow_add-first

@@ -25,7 +25,7 @@ module _ (w : ℕ) (s ps : List ℕ) where
 
 pub returns-then-not-fit : goal.returns-then-not-fit
 unfolding verdict_at
-returns-then-not-fit c = let said = verdict_said c.args.width c.args.set.now c.args.places.now _ (rw (sym c.fit.ensures ∙ not-true _ c.if-not-fit.true)) in record { verdict = said.0; number = said.1 }
+returns-then-not-fit c = let said = verdict_said c.args.width c.args.set.now c.args.places.now _ (rw (sym c.fit.ensures ∙ c.if-not-fit.true)) in record { verdict = said.0; number = said.1 }
 
 pub looks_sound-requires : goal.looks_sound-requires
 looks_sound-requires c =

@@ -10,19 +10,19 @@ returns-then-i-ge-NO_LANE c = rw (le-ltb _ _ c.if-i-ge-NO_LANE.true)
 pub returns-then-not-leads : goal.returns-then-not-leads
 unfolding reply_for_lane
 returns-then-not-leads c =
-    rw (lt-ltb _ _ c.if-i-ge-NO_LANE.false, ← c.leads.ensures, not-true c.leads.result c.if-not-leads.true)
+    rw (lt-ltb _ _ c.if-i-ge-NO_LANE.false, ← c.leads.ensures, c.if-not-leads.true)
 
 pub returns-then-not-is_finite : goal.returns-then-not-is_finite
 unfolding reply_for_lane
 returns-then-not-is_finite c =
-    rw (lt-ltb _ _ c.if-i-ge-NO_LANE.false, ← c.leads.ensures, not-false c.leads.result c.if-not-leads.false, ← c.is_finite.ensures, not-true c.is_finite.result c.if-not-is_finite.true)
+    rw (lt-ltb _ _ c.if-i-ge-NO_LANE.false, ← c.leads.ensures, c.if-not-leads.false, ← c.is_finite.ensures, c.if-not-is_finite.true)
 
 pub returns-then-not-untied : goal.returns-then-not-untied
 unfolding reply_for_lane
 returns-then-not-untied c =
-    rw (lt-ltb _ _ c.if-i-ge-NO_LANE.false, ← c.leads.ensures, not-false c.leads.result c.if-not-leads.false, ← c.is_finite.ensures, not-false c.is_finite.result c.if-not-is_finite.false, ← c.untied.ensures, not-true c.untied.result c.if-not-untied.true)
+    rw (lt-ltb _ _ c.if-i-ge-NO_LANE.false, ← c.leads.ensures, c.if-not-leads.false, ← c.is_finite.ensures, c.if-not-is_finite.false, ← c.untied.ensures, c.if-not-untied.true)
 
 pub returns : goal.returns
 unfolding reply_for_lane
 returns c =
-    rw (lt-ltb _ _ c.if-i-ge-NO_LANE.false, ← c.leads.ensures, not-false c.leads.result c.if-not-leads.false, ← c.is_finite.ensures, not-false c.is_finite.result c.if-not-is_finite.false, ← c.untied.ensures, not-false c.untied.result c.if-not-untied.false) c.gap_reply.ensures
+    rw (lt-ltb _ _ c.if-i-ge-NO_LANE.false, ← c.leads.ensures, c.if-not-leads.false, ← c.is_finite.ensures, c.if-not-is_finite.false, ← c.untied.ensures, c.if-not-untied.false) c.gap_reply.ensures

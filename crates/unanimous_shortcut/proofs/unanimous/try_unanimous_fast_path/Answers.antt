@@ -2,9 +2,6 @@
 use Rattle.unanimous_shortcut.specs.Unanimous.{unanimous_reply}
 use Rattle.unanimous_shortcut.proofs.unanimous.try_unanimous_fast_path.Goals as goal
 
-}
-use Rattle.unanimous_shortcut.proofs.unanimous.try_unanimous_fast_path.Tie as tie
-
 pub returns : goal.returns
 unfolding unanimous_reply
 returns c = rw (← c.sole_lane-i.ensures) c.reply_for_lane.ensures

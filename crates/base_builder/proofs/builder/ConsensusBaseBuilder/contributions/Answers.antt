@@ -2,9 +2,6 @@
 use Rattle.base_builder.specs.Builder.{contributions_of}
 use Rattle.base_builder.proofs.builder.ConsensusBaseBuilder.contributions.Goals as goal
 
-}
-use Rattle.base_builder.proofs.builder.ConsensusBaseBuilder.contributions.Tie as tie
-
 pub returns : goal.returns
 unfolding contributions_of
 returns c = rw c.total.ensures

@@ -2,9 +2,6 @@
 use Rattle.base_builder.specs.Calls.{multibase_of}
 use Rattle.base_builder.proofs.builder.ConsensusBaseBuilder.try_multibase_fast_path.Goals as goal
 
-}
-use Rattle.base_builder.proofs.builder.ConsensusBaseBuilder.try_multibase_fast_path.Tie as tie
-
 pub returns : goal.returns
 unfolding multibase_of
 returns c = c.try_multibase_fast_path.ensures

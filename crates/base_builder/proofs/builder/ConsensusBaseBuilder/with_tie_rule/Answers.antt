@@ -3,9 +3,6 @@ use mathlib.Core.Path.{refl}
 use Rattle.base_builder.specs.Builder.{with_tie_rule}
 use Rattle.base_builder.proofs.builder.ConsensusBaseBuilder.with_tie_rule.Goals as goal
 
-}
-use Rattle.base_builder.proofs.builder.ConsensusBaseBuilder.with_tie_rule.Tie as tie
-
 pub returns : goal.returns
 unfolding with_tie_rule
 returns c = refl

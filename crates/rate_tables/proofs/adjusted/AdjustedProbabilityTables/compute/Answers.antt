@@ -2,9 +2,6 @@
 use Rattle.rate_tables.specs.Adjusted.{adjusted_tables}
 use Rattle.rate_tables.proofs.adjusted.AdjustedProbabilityTables.compute.Goals as goal
 
-}
-use Rattle.rate_tables.proofs.adjusted.AdjustedProbabilityTables.compute.Tie as tie
-
 pub returns : goal.returns
 unfolding adjusted_tables
 returns c = rw (c.correct_table-correct.ensures, c.error_table-error_per_alt.ensures)
