@@ -1,11 +1,11 @@
 -- What comes of a part, by what its tests find, and what is then said and left. Assumes nothing.
 use mathlib.Core.Path.{◌≡◌, refl, sym, ◌∙◌, ap}
-use mathlib.Core.Bool.{Bool, true, false, not}
+use mathlib.Core.Bool.{Bool, true, false}
 use mathlib.Core.List.{List}
 use Prim.Native.Nat.{ℕ, ◌+◌}
 use native.Mathlib.Omega.{arith}
 use lib.Dec.{ltb, leb}
-use borrow.Author.Tests.{lt-ltb, le-ltb, leb-true, leb-false, not-true, not-false}
+use borrow.Author.Tests.{lt-ltb, le-ltb, leb-true, leb-false}
 use lib.ListN.{length}
 use Rattle.lent_bytes.specs.Buffer.{written_at}
 use Rattle.lent_bytes.proofs.Buffer.{short_written_at}
@@ -24,12 +24,12 @@ use Rattle.column_writer.specs.declared.writer.StepAnswer.TheVariants.{Accepted}
 use Rattle.column_writer.specs.Stages.{in_turn, awaits_finish, next_stage, next_of}
 use Rattle.column_writer.specs.Writing.{room_for_part, put_in, finish_of, file_after, step_number, stepped_by}
 
--- a test that was asked, and what its negation says of it
-pub it_fails : (b t : Bool) → b ≡ t → not b ≡ true → t ≡ false
-it_fails b t e h = sym e ∙ not-true b h
+-- a test that was asked, and what its outcome says of it
+pub it_fails : (b t : Bool) → b ≡ t → b ≡ false → t ≡ false
+it_fails b t e h = sym e ∙ h
 
-pub it_holds : (b t : Bool) → b ≡ t → not b ≡ false → t ≡ true
-it_holds b t e h = sym e ∙ not-false b h
+pub it_holds : (b t : Bool) → b ≡ t → b ≡ true → t ≡ true
+it_holds b t e h = sym e ∙ h
 
 next_refused : (q : Result Stage) (r : Refusal) → next.Refused r ≡ next_of q → q ≡ refused r
 next_refused (refused s) r e = cc

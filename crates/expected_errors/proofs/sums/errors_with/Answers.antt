@@ -13,8 +13,8 @@ loop-i-preserved c =
     let s = c.args.observations.now in
     let inside : c.loop-i.i + 1 < length s = c.loop-i-test.true in (
       omega arith,
-      omega (arith, c.wrapping_add_u64-sum.ensures),
-      rw (c.wrapping_add_u64-sum.ensures, c.wide-quality.ensures.value)
+      omega (arith, c.wrapping_add_u64-sum.ensures.value),
+      rw (c.wrapping_add_u64-sum.ensures.value, c.wide-quality.ensures.value)
           (wrapped c.loop-i.sum (get_or table (get_or s (c.loop-i.i + 1) 0) 0) _ (2 ^ 64)
           ∙ ap (λ (k : ℕ). (c.loop-i.sum + k) % 2 ^ 64) (sym (turn table s c.loop-i.i inside))
           ∙ c.loop-i.invariant.2),

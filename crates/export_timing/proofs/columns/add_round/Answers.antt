@@ -38,11 +38,11 @@ loop-left-preserved c =
     let called = column_call_with c.args.rows.now c.args.start (tables_of c.args.thresholds.now c.args.cerr-min.now c.args.cap) in
     let e = sym c.column_at-next.ensures.place ∙ c.in-At.is in
     let more = amount_of (called (part_of s c.in-At.first c.in-At.n)).call in (
-      rw (c.wrapping_add_u64-total.ensures, c.amount.ensures, c.call_column-column.ensures)
+      rw (c.wrapping_add_u64-total.ensures.value, c.amount.ensures, c.call_column-column.ensures)
           (wrapped c.loop-left.total more _ (2 ^ 64)
           ∙ ap (λ (k : ℕ). (c.loop-left.total + k) % 2 ^ 64)
           (sym (turn called s c.loop-left.place c.loop-left.left c.in-At.first c.in-At.n c.loop-left-test.true e)) ∙ c.loop-left.invariant.0),
-      omega (arith, c.wrapping_add_u64-total.ensures),
+      omega (arith, c.wrapping_add_u64-total.ensures.value),
     )
 
 pub returns : goal.returns

@@ -20,9 +20,9 @@ loop-i-preserved c =
     let t = adjusted_of c.args.correct.now c.args.error-per-alt.now in
     let g = tables_of c.args.thresholds.now c.args.cerr-min.now c.args.cap in (
       omega arith,
-      rw (c.wrapping_add_u64-total.ensures, c.amount_at-more.ensures, c.step-builder.ensures)
+      rw (c.wrapping_add_u64-total.ensures.value, c.amount_at-more.ensures, c.step-builder.ensures)
           (wrapped c.loop-i.total (amount_by g (get_or s c.loop-i.i 0) c.loop-i.builder) _ (2 ^ 64) ∙ ap (λ (k : ℕ). (c.loop-i.total + k) % 2 ^ 64) (sym (turn t g s c.loop-i.i c.loop-i.builder c.loop-i-test.true)) ∙ c.loop-i.invariant.1),
-      omega (arith, c.wrapping_add_u64-total.ensures),
+      omega (arith, c.wrapping_add_u64-total.ensures.value),
     )
 
 pub returns : goal.returns

@@ -5,7 +5,7 @@ use Rattle.lane_sums.proofs.observation.count.Goals as goal
 
 pub returns-then-i-k : goal.returns-then-i-k
 unfolding count_of
-returns-then-i-k c = rw (eq-eqb _ _ c.if-i-k.true) c.wrapping_add_u32.ensures
+returns-then-i-k c = rw (eq-eqb _ _ c.if-i-k.true) c.wrapping_add_u32.ensures.value
 
 pub returns : goal.returns
 unfolding count_of
