@@ -16,7 +16,7 @@ returns-then-state-ne80 c =
 pub returns-then-out-lt1044 : goal.returns-then-out-lt1044
 returns-then-out-lt1044 c =
     let s = c.args.state.now in
-    let short : length c.args.out.now < length (asked s) = omega (arith, asked_length s) in let said = rw (eighty s c.if-state-ne80.false) (short_replied _ _ short, short_written _ _ short) in record { reply = said.0; lent = said.1 }
+    let short : length c.args.out.now < length (asked s) = omega (arith, asked_length s) in record { reply = rw (eighty s c.if-state-ne80.false) (short_replied _ _ short); lent = rw (eighty s c.if-state-ne80.false) (short_written _ _ short) }
 
 pub put_counts-requires : goal.put_counts-requires
 put_counts-requires c = rw c.builder_of.ensures (counts_length 0 _)
@@ -24,5 +24,4 @@ put_counts-requires c = rw c.builder_of.ensures (counts_length 0 _)
 pub returns : goal.returns
 returns c =
     let s = c.args.state.now in
-    let fits : length (asked s) ≤ length c.args.out.now = omega (arith, asked_length s) in let said = rw (eighty s c.if-state-ne80.false)
-    (sym (asked_length s) ∙ fits_replied _ _ fits, (printed_written (rw c.builder_of.ensures at c.put_counts.ensures) fits).1) in record { reply = said.0; lent = said.1 }
+    let fits : length (asked s) ≤ length c.args.out.now = omega (arith, asked_length s) in record { reply = rw (eighty s c.if-state-ne80.false) (sym (asked_length s) ∙ fits_replied _ _ fits); lent = rw (eighty s c.if-state-ne80.false) ((printed_written (rw c.builder_of.ensures at c.put_counts.ensures) fits).1) }

@@ -8,4 +8,4 @@ pub slice_bounds-print-end : goal.slice_bounds-print-end
 slice_bounds-print-end c = sym (length-take-le _ _ (omega arith))
 
 pub returns : goal.returns
-returns c = let said = rw (take_all c.args.read c.args.room.now (omega arith)) c.print-2.ensures in record { reply = said.0; lent = said.1 }
+returns c = record { reply = rw (take_all c.args.read c.args.room.now (omega arith)) c.print-2.ensures.reply; lent = rw (take_all c.args.read c.args.room.now (omega arith)) c.print-2.ensures.lent }

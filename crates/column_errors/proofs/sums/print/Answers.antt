@@ -14,9 +14,9 @@ print_sums-requires c =
 pub returns-in-Refused : goal.returns-in-Refused
 returns-in-Refused c =
     let s = c.args.file.now in
-    let e = sums_refused s _ (read-refused (read_file s) c.read-reading.result c.read-reading.ensures.reading _ c.in-Refused.is) in let said = rw e c.print_refusal.ensures in record { reply = said.0; lent = said.1 }
+    let e = sums_refused s _ (read-refused (read_file s) c.read-reading.result c.read-reading.ensures.reading _ c.in-Refused.is) in record { reply = rw e c.print_refusal.ensures.reply; lent = rw e c.print_refusal.ensures.lent }
 
 pub returns-in-Accepted : goal.returns-in-Accepted
 returns-in-Accepted c =
     let given : FileAt (read_file c.args.file.now) c.in-Accepted.places = read_accepted _ c.read-reading.result c.read-reading.ensures.reading _ c.in-Accepted.is in
-    let s = c.args.file.now in let said = rw (sums_there s _ given) c.print_sums.ensures in record { reply = said.0; lent = said.1 }
+    let s = c.args.file.now in record { reply = rw (sums_there s _ given) c.print_sums.ensures.reply; lent = rw (sums_there s _ given) c.print_sums.ensures.lent }

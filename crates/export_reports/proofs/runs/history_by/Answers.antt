@@ -4,4 +4,4 @@ use Rattle.export_reports.proofs.runs.history_by.Goals as goal
 
 pub returns : goal.returns
 unfolding history_bytes
-returns c = let said = rw (← c.new.ensures) c.run.ensures in record { reply = said.0; lent = said.1 }
+returns c = record { reply = rw (← c.new.ensures) c.run.ensures.reply; lent = rw (← c.new.ensures) c.run.ensures.lent }

@@ -12,4 +12,4 @@ returns-then-state-ne80 c =
 
 pub returns : goal.returns
 unfolding builder_script_bytes
-returns c = let said = rw (eq-eqb _ _ c.if-state-ne80.false, ← c.builder_of-builder.ensures) c.run.ensures in record { reply = said.0; lent = said.1 }
+returns c = record { reply = rw (eq-eqb _ _ c.if-state-ne80.false, ← c.builder_of-builder.ensures) c.run.ensures.reply; lent = rw (eq-eqb _ _ c.if-state-ne80.false, ← c.builder_of-builder.ensures) c.run.ensures.lent }

@@ -21,7 +21,7 @@ returns-then-n-eq0 c =
     let count_of : ℕ = c.in-Strings.n in
     let stringsOf : List (List ℕ) = strings_at 0 setOf (take count_of places_of) in
     let strings : (read_set setOf ≡ accepted stringsOf) × (count_of ≤ length places_of) × Trimmed 0 setOf (take count_of places_of) = read_strings setOf places_of (replicate 255 0) c.read_places.result c.read_places.ensures count_of c.in-Strings.is in
-    let count : length stringsOf ≡ count_of = strings_count 0 setOf (take count_of places_of) strings.2 ∙ length-take-le count_of places_of strings.1 in let said = rw (call_in_none c.args.set.now c.args.out.now c.args.caller stringsOf strings.0 (count ∙ c.if-n-eq0.true)) (c.refused_consensus-then-n-eq0.ensures, (refl, omega arith)) in record { group = said.0; lent = said.1.0; few = said.1.1 }
+    let count : length stringsOf ≡ count_of = strings_count 0 setOf (take count_of places_of) strings.2 ∙ length-take-le count_of places_of strings.1 in record { group = rw (call_in_none c.args.set.now c.args.out.now c.args.caller stringsOf strings.0 (count ∙ c.if-n-eq0.true)) c.refused_consensus-then-n-eq0.ensures; lent = rw (call_in_none c.args.set.now c.args.out.now c.args.caller stringsOf strings.0 (count ∙ c.if-n-eq0.true)) refl; few = rw (call_in_none c.args.set.now c.args.out.now c.args.caller stringsOf strings.0 (count ∙ c.if-n-eq0.true)) (omega arith) }
 
 pub slice_bounds-places-end : goal.slice_bounds-places-end
 slice_bounds-places-end c =
@@ -52,7 +52,7 @@ alike_consensus-requires c =
 
 pub returns-in-Refused : goal.returns-in-Refused
 returns-in-Refused c =
-    let e = read-refused c.args.set.now c.read_places.new.places (replicate 255 0) c.read_places.result c.read_places.ensures _ c.in-Refused.is in let said = rw (call_in_refused c.args.set.now c.args.out.now c.args.caller _ e) (c.refused_consensus.ensures, (refl, omega arith)) in record { group = said.0; lent = said.1.0; few = said.1.1 }
+    let e = read-refused c.args.set.now c.read_places.new.places (replicate 255 0) c.read_places.result c.read_places.ensures _ c.in-Refused.is in record { group = rw (call_in_refused c.args.set.now c.args.out.now c.args.caller _ e) c.refused_consensus.ensures; lent = rw (call_in_refused c.args.set.now c.args.out.now c.args.caller _ e) refl; few = rw (call_in_refused c.args.set.now c.args.out.now c.args.caller _ e) (omega arith) }
 
 pub returns-else-n-eq0 : goal.returns-else-n-eq0
 returns-else-n-eq0 c =
@@ -62,5 +62,4 @@ returns-else-n-eq0 c =
     let stringsOf : List (List ℕ) = strings_at 0 setOf (take count_of places_of) in
     let strings : (read_set setOf ≡ accepted stringsOf) × (count_of ≤ length places_of) × Trimmed 0 setOf (take count_of places_of) = read_strings setOf places_of (replicate 255 0) c.read_places.result c.read_places.ensures count_of c.in-Strings.is in
     let count : length stringsOf ≡ count_of = strings_count 0 setOf (take count_of places_of) strings.2 ∙ length-take-le count_of places_of strings.1 in
-    let some : 0 < count_of = omega (arith, c.if-n-eq0.false) in let said = rw (call_in c.args.set.now c.args.out.now c.args.caller stringsOf strings.0 (rw count some))
-    (c.alike_consensus.ensures.group, (c.alike_consensus.ensures.lent, room_few c.args.out.now (umis_of c.args.caller stringsOf) c.alike_consensus.ensures.few)) in record { group = said.0; lent = said.1.0; few = said.1.1 }
+    let some : 0 < count_of = omega (arith, c.if-n-eq0.false) in record { group = rw (call_in c.args.set.now c.args.out.now c.args.caller stringsOf strings.0 (rw count some)) c.alike_consensus.ensures.group; lent = rw (call_in c.args.set.now c.args.out.now c.args.caller stringsOf strings.0 (rw count some)) c.alike_consensus.ensures.lent; few = rw (call_in c.args.set.now c.args.out.now c.args.caller stringsOf strings.0 (rw count some)) (room_few c.args.out.now (umis_of c.args.caller stringsOf) c.alike_consensus.ensures.few) }

@@ -44,7 +44,7 @@ alike_consensus-called-requires c =
 
 pub returns-in-Refused : goal.returns-in-Refused
 returns-in-Refused c =
-    let e = read-refused c.args.set.now c.read_places.new.places (replicate 255 0) c.read_places.result c.read_places.ensures _ c.in-Refused.is in let said = rw (umis_in_refused c.args.set.now c.args.out.now _ e) (refl, (refl, (omega arith, refl))) in record { answer = said.0; lent = said.1.0; short = said.1.1.0; number = said.1.1.1 }
+    let e = read-refused c.args.set.now c.read_places.new.places (replicate 255 0) c.read_places.result c.read_places.ensures _ c.in-Refused.is in record { answer = rw (umis_in_refused c.args.set.now c.args.out.now _ e) refl; lent = rw (umis_in_refused c.args.set.now c.args.out.now _ e) refl; short = rw (umis_in_refused c.args.set.now c.args.out.now _ e) (omega arith); number = rw (umis_in_refused c.args.set.now c.args.out.now _ e) refl }
 
 pub returns-in-Strings : goal.returns-in-Strings
 returns-in-Strings c =

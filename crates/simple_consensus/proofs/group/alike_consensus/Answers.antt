@@ -12,14 +12,18 @@ use Rattle.simple_consensus.proofs.group.alike_consensus.Goals as goal
 pub returns-then-not-alike : goal.returns-then-not-alike
 returns-then-not-alike c =
     let strings : List (List ℕ) = strings_at 0 c.args.set.now c.args.places.now in
-    let tested : alike strings ≡ c.alike.result = strings_alike 0 c.args.set.now c.args.places.now c.requires ∙ sym c.alike.ensures in let said = rw (umis_unlike c.args.caller strings (tested ∙ c.if-not-alike.true))
-    (c.refused_consensus.ensures, (refl, omega arith)) in record { group = said.0; lent = said.1.0; few = said.1.1 }
+    let tested : alike strings ≡ c.alike.result = strings_alike 0 c.args.set.now c.args.places.now c.requires ∙ sym c.alike.ensures in record { group = rw (umis_unlike c.args.caller strings (tested ∙ c.if-not-alike.true)) c.refused_consensus.ensures; lent = rw (umis_unlike c.args.caller strings (tested ∙ c.if-not-alike.true)) refl; few = rw (umis_unlike c.args.caller strings (tested ∙ c.if-not-alike.true)) (omega arith) }
 
 pub returns : goal.returns
 returns c =
     let strings : List (List ℕ) = strings_at 0 c.args.set.now c.args.places.now in
-    let tested : alike strings ≡ c.alike.result = strings_alike 0 c.args.set.now c.args.places.now c.requires ∙ sym c.alike.ensures in let said = rw (
+    let tested : alike strings ≡ c.alike.result = strings_alike 0 c.args.set.now c.args.places.now c.requires ∙ sym c.alike.ensures in record { group = rw (
       umis_alike c.args.caller strings (tested ∙ c.if-not-alike.false),
       ← group_said c.args.caller 0 c.args.set.now c.args.places.now c.requires,
-    )
-    c.group_consensus.ensures in record { group = said.0; lent = said.1.0; few = said.1.1 }
+    ) c.group_consensus.ensures.group; lent = rw (
+      umis_alike c.args.caller strings (tested ∙ c.if-not-alike.false),
+      ← group_said c.args.caller 0 c.args.set.now c.args.places.now c.requires,
+    ) c.group_consensus.ensures.lent; few = rw (
+      umis_alike c.args.caller strings (tested ∙ c.if-not-alike.false),
+      ← group_said c.args.caller 0 c.args.set.now c.args.places.now c.requires,
+    ) c.group_consensus.ensures.few }

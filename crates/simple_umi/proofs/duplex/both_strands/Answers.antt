@@ -52,7 +52,7 @@ returns-in-Refused c =
     let strings : List (List ℕ) = strings_at 0 c.args.set.now c.args.places.now in
     let caller = c.args.caller in
     let out = c.args.out.now in
-    let refusal = group_refused c.strand_consensus-a.result caller (consensus_of caller (strand_of 65 strings)) c.strand_consensus-a.ensures.group _ c.in-Refused.is in let said = rw (pair_in_refused caller strings out _ refusal) (pair_refused caller _ out _ refl, omega arith) in record { gave = said.0; short = said.1 }
+    let refusal = group_refused c.strand_consensus-a.result caller (consensus_of caller (strand_of 65 strings)) c.strand_consensus-a.ensures.group _ c.in-Refused.is in record { gave = rw (pair_in_refused caller strings out _ refusal) (pair_refused caller _ out _ refl); short = rw (pair_in_refused caller strings out _ refusal) (omega arith) }
 
 pub returns-in-Given : goal.returns-in-Given
 returns-in-Given c =
@@ -67,5 +67,4 @@ returns-in-Given c =
     let given =
     group_given c.strand_consensus-a.result caller (consensus_of caller (strand_of 65 (strings start))) c.strand_consensus-a.ensures.group count_of c.in-Given.had_errors c.in-Given.is
     (replicate 255 0) text_of c.strand_consensus-a.ensures.lent few in
-    let both = second_in c.strand_consensus-a.result.caller found (strings start) out in let said = rw (pair_in caller (strings start) out found given.0 ∙ ap (λ (k : SimpleConsensusCaller). second_in k found (strings start) out) (sym given.1))
-    (pair_from caller c.strand_consensus-a.result.caller given.1 c.second_strand.result out _ both c.second_strand.ensures.gave, c.second_strand.ensures.short) in record { gave = said.0; short = said.1 }
+    let both = second_in c.strand_consensus-a.result.caller found (strings start) out in record { gave = rw (pair_in caller (strings start) out found given.0 ∙ ap (λ (k : SimpleConsensusCaller). second_in k found (strings start) out) (sym given.1)) (pair_from caller c.strand_consensus-a.result.caller given.1 c.second_strand.result out _ both c.second_strand.ensures.gave); short = rw (pair_in caller (strings start) out found given.0 ∙ ap (λ (k : SimpleConsensusCaller). second_in k found (strings start) out) (sym given.1)) c.second_strand.ensures.short }

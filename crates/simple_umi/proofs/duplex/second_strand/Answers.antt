@@ -39,7 +39,7 @@ pub returns-in-Refused : goal.returns-in-Refused
 returns-in-Refused c =
     let strings : List (List ℕ) = strings_at 0 c.args.set.now c.args.places.now in
     let found = found_by c.args.text.now c.args.had-errors c.args.caller.builder in
-    let refusal = group_refused c.strand_consensus-b.result c.args.caller (consensus_of c.args.caller (strand_of 66 strings)) c.strand_consensus-b.ensures.group _ c.in-Refused.is in let said = rw (second_refused c.args.caller strings c.args.out.now found _ refusal) (pair_refused c.args.caller _ c.args.out.now _ refl, omega arith) in record { gave = said.0; short = said.1 }
+    let refusal = group_refused c.strand_consensus-b.result c.args.caller (consensus_of c.args.caller (strand_of 66 strings)) c.strand_consensus-b.ensures.group _ c.in-Refused.is in record { gave = rw (second_refused c.args.caller strings c.args.out.now found _ refusal) (pair_refused c.args.caller _ c.args.out.now _ refl); short = rw (second_refused c.args.caller strings c.args.out.now found _ refusal) (omega arith) }
 
 pub returns-in-Given : goal.returns-in-Given
 returns-in-Given c =
@@ -56,7 +56,4 @@ returns-in-Given c =
     let second = found_by other c.in-Given.had_errors_b c.strand_consensus-b.result.caller.builder in
     let given =
     group_given c.strand_consensus-b.result a.caller (consensus_of a.caller (strand_of 66 (strings start))) c.strand_consensus-b.ensures.group count_of c.in-Given.had_errors_b c.in-Given.is
-    (replicate 255 0) text_of c.strand_consensus-b.ensures.lent few in let said = rw (second_in_lem a.caller (strings start) a.out.now first second given.0) (
-      pair_given a.caller _ a.out.now (pairing first second (either a.text.now other)) _ c.put_either.ensures.answer given.1 c.put_either.ensures.lent,
-      rw c.put_either.ensures.answer (text_few (either a.text.now other) a.had-errors c.in-Given.had_errors_b a.out.now (either_few a.text.now other start.pre.0 (omega (arith, few, text)))),
-    ) in record { gave = said.0; short = said.1 }
+    (replicate 255 0) text_of c.strand_consensus-b.ensures.lent few in record { gave = rw (second_in_lem a.caller (strings start) a.out.now first second given.0) (pair_given a.caller _ a.out.now (pairing first second (either a.text.now other)) _ c.put_either.ensures.answer given.1 c.put_either.ensures.lent); short = rw (second_in_lem a.caller (strings start) a.out.now first second given.0) (rw c.put_either.ensures.answer (text_few (either a.text.now other) a.had-errors c.in-Given.had_errors_b a.out.now (either_few a.text.now other start.pre.0 (omega (arith, few, text))))) }
