@@ -50,13 +50,13 @@ module _ (s : List ℕ) where
 
 module _ (t out u : List ℕ) (e : u ≡ t) (b : Bool) (k : b ≡ leb (length u) (length out)) where
   -- too long
-  pub not_printed : not b ≡ true → (0 ≡ length_written t out) × (out ≡ written t out)
+  pub not_printed : b ≡ false → (0 ≡ length_written t out) × (out ≡ written t out)
   not_printed h =
       let long = measured_long t out u e b k h in
       (short_replied t out long, short_written t out long)
 
   -- printed
-  pub all_printed : not b ≡ false → (w : ℕ) (o : List ℕ) → Printed out 0 u o w → (w ≡ length_written t out) × (o ≡ written t out)
+  pub all_printed : b ≡ true → (w : ℕ) (o : List ℕ) → Printed out 0 u o w → (w ≡ length_written t out) × (o ≡ written t out)
   all_printed h w o p =
       let inside = measured_fits t out u e b k h in
       let q = printed_written (printed_as p e) inside in

@@ -63,13 +63,13 @@ fits_short n most room h k = sym (le-leb n room (omega arith))
 -- by the test of a text u, which is t in other words
 module _ (t out u : List ℕ) (e : u ≡ t) (b : Bool) (k : b ≡ leb (length u) (length out)) where
   -- too long
-  pub outcome_short : not b ≡ true → (outcome.TooShort ≡ outcome_of out (accepted t)) × (out ≡ written t out)
+  pub outcome_short : b ≡ false → (outcome.TooShort ≡ outcome_of out (accepted t)) × (out ≡ written t out)
   outcome_short h =
       let long = measured_long t out u e b k h in
       (rw (lt-leb (length t) (length out) long), short_written t out long)
 
   -- printed
-  pub outcome_put : not b ≡ false → (w : ℕ) (o : List ℕ) → Printed out 0 u o w → (outcome.Written w ≡ outcome_of out (accepted t)) × (o ≡ written t out)
+  pub outcome_put : b ≡ true → (w : ℕ) (o : List ℕ) → Printed out 0 u o w → (outcome.Written w ≡ outcome_of out (accepted t)) × (o ≡ written t out)
   outcome_put h w o p =
       let inside = measured_fits t out u e b k h in
       let q = printed_written (printed_as p e) inside in

@@ -70,11 +70,11 @@ module _ (t out u : List ℕ) (e : u ≡ t) (b : Bool) (k : b ≡ leb (length u)
   measured : b ≡ leb (length t) (length out)
   measured = k ∙ ap (λ (x : List ℕ). leb (length x) (length out)) e
 
-  pub measured_long : not b ≡ true → length out < length t
-  measured_long h = leb-false (length t) (length out) (sym measured ∙ not-true b h)
+  pub measured_long : b ≡ false → length out < length t
+  measured_long h = leb-false (length t) (length out) (sym measured ∙ h)
 
-  pub measured_fits : not b ≡ false → length t ≤ length out
-  measured_fits h = leb-true (length t) (length out) (sym measured ∙ not-false b h)
+  pub measured_fits : b ≡ true → length t ≤ length out
+  measured_fits h = leb-true (length t) (length out) (sym measured ∙ h)
 
 -- ---- what is printed so far and what is left
 

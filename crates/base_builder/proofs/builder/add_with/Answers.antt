@@ -4,4 +4,4 @@ use Rattle.base_builder.proofs.builder.add_with.Goals as goal
 
 pub returns : goal.returns
 unfolding added
-returns c = record { builder = rw (← c.entry-q.ensures) c.add_entry.ensures.builder; answer = c.add_entry.ensures.1.0; number = c.add_entry.ensures.1.1 }
+returns c = record { builder = rw (← c.entry-q.ensures) c.add_entry.ensures.builder; answer = c.add_entry.ensures.answer; number = c.add_entry.ensures.number }

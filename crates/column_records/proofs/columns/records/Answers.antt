@@ -23,4 +23,4 @@ returns-in-Refused c =
 pub returns-in-Accepted : goal.returns-in-Accepted
 returns-in-Accepted c =
     let given : AcceptedAs (judge_file c.args.file.now) c.in-Accepted.places c.in-Accepted.field-1 c.in-Accepted.field-2 = said_accepted _ c.judge-judgement.result.judgement c.judge-judgement.ensures.judgement _ _ _ c.in-Accepted.is in
-    let r = accepted_reply c.args.file.now c.args.out.now _ _ _ (records_there c.args.file.now _ _ _ given) c.write_records.ensures in record { answer = r.0; lent = r.1; number = ap listing_number r.0 ∙ number_is (records_in c.args.file.now c.args.out.now) }
+    let r = accepted_reply c.args.file.now c.args.out.now _ _ _ (records_there c.args.file.now _ _ _ given) (c.write_records.ensures.reply, c.write_records.ensures.lent) in record { answer = r.0; lent = r.1; number = ap listing_number r.0 ∙ number_is (records_in c.args.file.now c.args.out.now) }

@@ -7,4 +7,4 @@ use Rattle.simple_consensus.proofs.group.group_consensus.Goals as goal
 
 pub returns : goal.returns
 returns c =
-    let t = and_then (group_by c.args.caller c.args.trim c.args.set.now c.args.places.now) (room_for c.args.out.now) in record { group = group_given c.args.caller t c.consensus_group-group.result c.consensus_group-group.ensures.group c.with_builder.result c.with_builder.ensures; lent = c.consensus_group-group.ensures.1.0; few = c.consensus_group-group.ensures.1.1 }
+    let t = and_then (group_by c.args.caller c.args.trim c.args.set.now c.args.places.now) (room_for c.args.out.now) in record { group = group_given c.args.caller t c.consensus_group-group.result c.consensus_group-group.ensures.group c.with_builder.result c.with_builder.ensures; lent = c.consensus_group-group.ensures.lent; few = c.consensus_group-group.ensures.few }

@@ -18,7 +18,7 @@ slice_bounds-places-end c =
     let places_of : List ℕ = c.read_places.new.places in
     let count_of : ℕ = c.in-Strings.n in
     let stringsOf : List (List ℕ) = strings_at 0 setOf (take count_of places_of) in
-    let strings : (read_set setOf ≡ accepted stringsOf) × (count_of ≤ length places_of) × Trimmed 0 setOf (take count_of places_of) = read_strings setOf places_of (replicate 255 0) c.read_places.result c.read_places.ensures count_of c.in-Strings.is in
+    let strings : (read_set setOf ≡ accepted stringsOf) × (count_of ≤ length places_of) × Trimmed 0 setOf (take count_of places_of) = read_strings setOf places_of (replicate 255 0) c.read_places.result (c.read_places.ensures.reading, (c.read_places.ensures.lent, (c.read_places.ensures.number, c.read_places.ensures.few))) count_of c.in-Strings.is in
     strings.1
 
 pub slice_bounds-both_strands-end : goal.slice_bounds-both_strands-end
@@ -27,7 +27,7 @@ slice_bounds-both_strands-end c =
     let places_of : List ℕ = c.read_places.new.places in
     let count_of : ℕ = c.in-Strings.n in
     let stringsOf : List (List ℕ) = strings_at 0 setOf (take count_of places_of) in
-    let strings : (read_set setOf ≡ accepted stringsOf) × (count_of ≤ length places_of) × Trimmed 0 setOf (take count_of places_of) = read_strings setOf places_of (replicate 255 0) c.read_places.result c.read_places.ensures count_of c.in-Strings.is in
+    let strings : (read_set setOf ≡ accepted stringsOf) × (count_of ≤ length places_of) × Trimmed 0 setOf (take count_of places_of) = read_strings setOf places_of (replicate 255 0) c.read_places.result (c.read_places.ensures.reading, (c.read_places.ensures.lent, (c.read_places.ensures.number, c.read_places.ensures.few))) count_of c.in-Strings.is in
     sym (length-take-le count_of places_of strings.1)
 
 pub both_strands-requires : goal.both_strands-requires
@@ -36,12 +36,12 @@ both_strands-requires c =
     let places_of : List ℕ = c.read_places.new.places in
     let count_of : ℕ = c.in-Strings.n in
     let stringsOf : List (List ℕ) = strings_at 0 setOf (take count_of places_of) in
-    let strings : (read_set setOf ≡ accepted stringsOf) × (count_of ≤ length places_of) × Trimmed 0 setOf (take count_of places_of) = read_strings setOf places_of (replicate 255 0) c.read_places.result c.read_places.ensures count_of c.in-Strings.is in
+    let strings : (read_set setOf ≡ accepted stringsOf) × (count_of ≤ length places_of) × Trimmed 0 setOf (take count_of places_of) = read_strings setOf places_of (replicate 255 0) c.read_places.result (c.read_places.ensures.reading, (c.read_places.ensures.lent, (c.read_places.ensures.number, c.read_places.ensures.few))) count_of c.in-Strings.is in
     strings.2
 
 pub returns-in-Refused : goal.returns-in-Refused
 returns-in-Refused c =
-    let e = read-refused c.args.set.now c.read_places.new.places (replicate 255 0) c.read_places.result c.read_places.ensures _ c.in-Refused.is in record { gave = rw (duplex_in_refused c.args.caller c.args.set.now c.args.out.now _ e) (pair_refused c.args.caller _ c.args.out.now _ refl); short = rw (duplex_in_refused c.args.caller c.args.set.now c.args.out.now _ e) (omega arith) }
+    let e = read-refused c.args.set.now c.read_places.new.places (replicate 255 0) c.read_places.result (c.read_places.ensures.reading, (c.read_places.ensures.lent, (c.read_places.ensures.number, c.read_places.ensures.few))) _ c.in-Refused.is in record { gave = rw (duplex_in_refused c.args.caller c.args.set.now c.args.out.now _ e) (pair_refused c.args.caller _ c.args.out.now _ refl); short = rw (duplex_in_refused c.args.caller c.args.set.now c.args.out.now _ e) (omega arith) }
 
 pub returns-in-Strings : goal.returns-in-Strings
 returns-in-Strings c =
@@ -49,4 +49,4 @@ returns-in-Strings c =
     let places_of : List ℕ = c.read_places.new.places in
     let count_of : ℕ = c.in-Strings.n in
     let stringsOf : List (List ℕ) = strings_at 0 setOf (take count_of places_of) in
-    let strings : (read_set setOf ≡ accepted stringsOf) × (count_of ≤ length places_of) × Trimmed 0 setOf (take count_of places_of) = read_strings setOf places_of (replicate 255 0) c.read_places.result c.read_places.ensures count_of c.in-Strings.is in record { gave = rw (duplex_in_lem c.args.caller c.args.set.now c.args.out.now stringsOf strings.0) c.both_strands.ensures.gave; short = rw (duplex_in_lem c.args.caller c.args.set.now c.args.out.now stringsOf strings.0) c.both_strands.ensures.short }
+    let strings : (read_set setOf ≡ accepted stringsOf) × (count_of ≤ length places_of) × Trimmed 0 setOf (take count_of places_of) = read_strings setOf places_of (replicate 255 0) c.read_places.result (c.read_places.ensures.reading, (c.read_places.ensures.lent, (c.read_places.ensures.number, c.read_places.ensures.few))) count_of c.in-Strings.is in record { gave = rw (duplex_in_lem c.args.caller c.args.set.now c.args.out.now stringsOf strings.0) c.both_strands.ensures.gave; short = rw (duplex_in_lem c.args.caller c.args.set.now c.args.out.now stringsOf strings.0) c.both_strands.ensures.short }
