@@ -491,7 +491,7 @@ def convert(root, crate, key, facts, said):
                 rest = as_record(rest, asked)
                 if not rest.startswith((" ", "\n")):
                     rest = " " + rest
-            if re.fullmatch(r"\s*(search rules|omega arith)\s*", rest):
+            if not middle and re.fullmatch(r"\s*(search rules|omega arith)\s*", rest):
                 continue
             ans_out.append("\n".join([*comments, f"pub {new} : goal.{new}", *middle, f"{new} c ={rest}"]))
         else:

@@ -9,6 +9,7 @@ use Rattle.base_builder.specs.History.{step, run, after}
 use Rattle.observation_windows.specs.Windows.{windows_of}
 use Rattle.observation_windows.proofs.Laws.{added_same}
 use Rattle.column_file.specs.declared.settings.Settings.{Settings}
+use Rattle.base_builder.specs.Builder.{added}
 use Rattle.column_file.specs.Format.{Observation}
 use Rattle.column_calls.specs.Columns.{event_of, start_of, builder_of_column, column_call, called_column}
 use Rattle.column_calls.specs.Tables.{builder_with, column_call_with}
@@ -18,7 +19,7 @@ pub windows_run : (t : AdjustedProbabilityTables) (b : ConsensusBaseBuilder) (c 
     → builder_with (windows_of t.correct t.error_per_alt) b c ≡ run t (map event_of c) b
 unfolding builder_with run step
 windows_run t b [] = refl
-windows_run t b (o ∷ c) = rw (added_same t.correct t.error_per_alt o.base o.quality b) (windows_run t _ c)
+windows_run t b (o ∷ c) = rw (added_same t.correct t.error_per_alt o.base o.quality b) (windows_run t (added t.correct t.error_per_alt o.base o.quality b) c)
 
 -- what is called of each column
 pub calls_with : (g : Settings)

@@ -18,9 +18,6 @@ returns c =
 pub shape_of-out : goal.shape_of-out
 shape_of-out c = printed_length (returns c)
 
-pub returns : goal.returns
-returns c = returns c
-
 pub u32_as_u64-requires : goal.u32_as_u64-requires
 u32_as_u64-requires c = tt
 

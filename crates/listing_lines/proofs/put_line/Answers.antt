@@ -19,9 +19,6 @@ returns c =
 pub shape_of-out : goal.shape_of-out
 shape_of-out c = printed_length (returns c)
 
-pub returns : goal.returns
-returns c = returns c
-
 pub total-depth-requires : goal.total-depth-requires
 total-depth-requires c = tt
 

@@ -23,7 +23,7 @@ shape_of-out-in_default c = printed_length c.loop-number.invariant.2
 
 pub returns-in_default : goal.returns-in_default
 returns-in_default c =
-    let called = column_call_with c.args.rows.now c.args.start (tables_of c.args.thresholds.now c.args.cerr-min.now c.args.cap) in
+    let called = column_call_with c.args.rows.now c.args.start (tables_of c.args.thresholds.now c.args.cerr_min.now c.args.cap) in
     let e = sym c.column_at-next.ensures.place ∙ c.in_default.is in
     printed_as c.loop-number.invariant.2 (no_more c.loop-number.invariant.1 _ _ (lines_past called c.args.file.now c.loop-number.column (c.args.count - c.loop-number.number) (c.loop-number.number + 1) e) c.loop-number.invariant.3)
 
@@ -45,7 +45,7 @@ slice_bounds-call_column-end c =
 pub loop-number-preserved : goal.loop-number-preserved
 loop-number-preserved c =
     let s = c.args.file.now in
-    let called = column_call_with c.args.rows.now c.args.start (tables_of c.args.thresholds.now c.args.cerr-min.now c.args.cap) in
+    let called = column_call_with c.args.rows.now c.args.start (tables_of c.args.thresholds.now c.args.cerr_min.now c.args.cap) in
     let line = line_with (c.loop-number.number + 1) (called (part_of s c.in-At.first c.in-At.n)) in
     let e = sym c.column_at-next.ensures.place ∙ c.in-At.is in
     let d : c.args.count - (c.loop-number.number + 1) ≡ c.args.count - c.loop-number.number - 1 = omega arith in
@@ -65,7 +65,7 @@ shape_of-out c = printed_length c.loop-number.invariant.2
 
 pub returns : goal.returns
 returns c =
-    let called = column_call_with c.args.rows.now c.args.start (tables_of c.args.thresholds.now c.args.cerr-min.now c.args.cap) in
+    let called = column_call_with c.args.rows.now c.args.start (tables_of c.args.thresholds.now c.args.cerr_min.now c.args.cap) in
     printed_as c.loop-number.invariant.2
     (no_more c.loop-number.invariant.1 _ _ (lines_none called c.args.file.now c.loop-number.column (c.args.count - c.loop-number.number) (c.loop-number.number + 1) (omega arith)) c.loop-number.invariant.3)
 

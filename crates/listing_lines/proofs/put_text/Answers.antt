@@ -11,12 +11,9 @@ use Rattle.listing_lines.proofs.put_text.Goals as goal
 pub returns : goal.returns
 unfolding text_with
 returns c =
-    let g = tables_of c.args.thresholds.now c.args.cerr-min.now c.args.cap in
+    let g = tables_of c.args.thresholds.now c.args.cerr_min.now c.args.cap in
     let text = text_of (lines_with (column_call_with c.args.rows.now c.args.start g) 1 (columns_at c.args.file.now c.args.from c.args.count)) in
     print_then (print_then {u = text} c.put_bytes-lines.ensures c.put_lines-umi.ensures) c.put_umi.ensures
 
 pub shape_of-out : goal.shape_of-out
 shape_of-out c = printed_length (returns c)
-
-pub returns : goal.returns
-returns c = returns c

@@ -21,7 +21,7 @@ shape_of-out-in_default c = printed_length c.loop-left.invariant.1
 
 pub returns-in_default : goal.returns-in_default
 returns-in_default c =
-    let called = column_call_with c.args.rows.now c.args.start (tables_of c.args.thresholds.now c.args.cerr-min.now c.args.cap) in
+    let called = column_call_with c.args.rows.now c.args.start (tables_of c.args.thresholds.now c.args.cerr_min.now c.args.cap) in
     let e = sym c.column_at-next.ensures.place ∙ c.in_default.is in
     printed_as c.loop-left.invariant.1 (no_more c.loop-left.invariant.0 _ _ (records_past called c.args.file.now c.loop-left.column c.loop-left.left e) c.loop-left.invariant.2)
 
@@ -43,7 +43,7 @@ slice_bounds-call_column-end c =
 pub loop-left-preserved : goal.loop-left-preserved
 loop-left-preserved c =
     let s = c.args.file.now in
-    let called = column_call_with c.args.rows.now c.args.start (tables_of c.args.thresholds.now c.args.cerr-min.now c.args.cap) in
+    let called = column_call_with c.args.rows.now c.args.start (tables_of c.args.thresholds.now c.args.cerr_min.now c.args.cap) in
     let one = record_of (called (part_of s c.in-At.first c.in-At.n)) c.in-At.n in
     let e = sym c.column_at-next.ensures.place ∙ c.in-At.is in
     let p : Printed c.loop-left.out c.loop-left.place one c.put_record-place.new.out c.put_record-place.result =
@@ -60,7 +60,7 @@ shape_of-out c = printed_length c.loop-left.invariant.1
 
 pub returns : goal.returns
 returns c =
-    let called = column_call_with c.args.rows.now c.args.start (tables_of c.args.thresholds.now c.args.cerr-min.now c.args.cap) in
+    let called = column_call_with c.args.rows.now c.args.start (tables_of c.args.thresholds.now c.args.cerr_min.now c.args.cap) in
     printed_as c.loop-left.invariant.1 (no_more c.loop-left.invariant.0 _ _ (records_none called c.args.file.now c.loop-left.column c.loop-left.left (omega arith)) c.loop-left.invariant.2)
 
 pub column_at-next-requires : goal.column_at-next-requires

@@ -25,6 +25,3 @@ returns c =
 
 pub shape_of-out : goal.shape_of-out
 shape_of-out c = put_length (returns c)
-
-pub returns : goal.returns
-returns c = returns c

@@ -12,7 +12,7 @@ put_calls-b-requires c =
 
 pub put_byte-requires : goal.put_byte-requires
 put_byte-requires c =
-    omega (arith, c.put_builder-a.ensures.place, c.put_calls-b.ensures.place, builder_length c.args.progress.builder, calls_length (tables_of c.args.thresholds.now c.args.cerr-min.now c.args.cap) c.args.progress.builder)
+    omega (arith, c.put_builder-a.ensures.place, c.put_calls-b.ensures.place, builder_length c.args.progress.builder, calls_length (tables_of c.args.thresholds.now c.args.cerr_min.now c.args.cap) c.args.progress.builder)
 
 -- the puts, one after another
 pub returns : goal.returns
@@ -22,6 +22,3 @@ returns c =
 
 pub shape_of-out : goal.shape_of-out
 shape_of-out c = put_length (returns c)
-
-pub returns : goal.returns
-returns c = returns c

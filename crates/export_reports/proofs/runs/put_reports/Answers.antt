@@ -21,7 +21,7 @@ use Rattle.export_reports.proofs.runs.put_reports.Goals as goal
 
 pub loop-i-init : goal.loop-i-init
 loop-i-init c =
-    (omega arith, omega (arith, c.requires, reports_length (adjusted_of c.args.correct.now c.args.error-per-alt.now) (tables_of c.args.thresholds.now c.args.cerr-min.now c.args.cap) (items c.args.script.now) c.args.start), refl, refl)
+    (omega arith, omega (arith, c.requires, reports_length (adjusted_of c.args.correct.now c.args.error_per_alt.now) (tables_of c.args.thresholds.now c.args.cerr_min.now c.args.cap) (items c.args.script.now) c.args.start), refl, refl)
 
 pub put_item-at-requires : goal.put_item-at-requires
 put_item-at-requires c =
@@ -39,8 +39,8 @@ overflow_add-i-in-loop-i-3 c =
 pub loop-i-preserved : goal.loop-i-preserved
 loop-i-preserved c =
     let s = c.args.script.now in
-    let t = adjusted_of c.args.correct.now c.args.error-per-alt.now in
-    let g = tables_of c.args.thresholds.now c.args.cerr-min.now c.args.cap in
+    let t = adjusted_of c.args.correct.now c.args.error_per_alt.now in
+    let g = tables_of c.args.thresholds.now c.args.cerr_min.now c.args.cap in
     let w = if ltb (get_or s c.loop-i.i 0) 3 then [] else report_of g c.loop-i.progress in
     let put : Put c.loop-i.out c.loop-i.at w c.put_item-at.new.out c.put_item-at.result = c.put_item-at.ensures in (
       omega arith,
@@ -54,4 +54,4 @@ shape_of-out c = c.loop-i.invariant.3
 
 pub returns : goal.returns
 returns c =
-    sym (ap (sets c.loop-i.out c.loop-i.at) (turned (adjusted_of c.args.correct.now c.args.error-per-alt.now) (tables_of c.args.thresholds.now c.args.cerr-min.now c.args.cap) c.args.script.now c.loop-i.i c.loop-i.progress (omega arith))) ∙ c.loop-i.invariant.2
+    sym (ap (sets c.loop-i.out c.loop-i.at) (turned (adjusted_of c.args.correct.now c.args.error_per_alt.now) (tables_of c.args.thresholds.now c.args.cerr_min.now c.args.cap) c.args.script.now c.loop-i.i c.loop-i.progress (omega arith))) ∙ c.loop-i.invariant.2

@@ -13,7 +13,7 @@ loop-left-init c = (refl, search rules)
 
 pub returns-in_default : goal.returns-in_default
 returns-in_default c =
-    let called = column_call_with c.args.rows.now c.args.start (tables_of c.args.thresholds.now c.args.cerr-min.now c.args.cap) in
+    let called = column_call_with c.args.rows.now c.args.start (tables_of c.args.thresholds.now c.args.cerr_min.now c.args.cap) in
     let e = sym c.column_at-next.ensures.place ∙ c.in_default.is in
     all_added_lem c.loop-left.total _ _ (2 ^ 64) c.loop-left.invariant.1 (turned_past called c.args.file.now c.loop-left.place c.loop-left.left e) c.loop-left.invariant.0
 
@@ -35,7 +35,7 @@ slice_bounds-call_column-end c =
 pub loop-left-preserved : goal.loop-left-preserved
 loop-left-preserved c =
     let s = c.args.file.now in
-    let called = column_call_with c.args.rows.now c.args.start (tables_of c.args.thresholds.now c.args.cerr-min.now c.args.cap) in
+    let called = column_call_with c.args.rows.now c.args.start (tables_of c.args.thresholds.now c.args.cerr_min.now c.args.cap) in
     let e = sym c.column_at-next.ensures.place ∙ c.in-At.is in
     let more = amount_of (called (part_of s c.in-At.first c.in-At.n)).call in (
       rw (c.wrapping_add_u64-total.ensures.value, c.amount.ensures, c.call_column-column.ensures)
@@ -47,5 +47,5 @@ loop-left-preserved c =
 
 pub returns : goal.returns
 returns c =
-    let called = column_call_with c.args.rows.now c.args.start (tables_of c.args.thresholds.now c.args.cerr-min.now c.args.cap) in
+    let called = column_call_with c.args.rows.now c.args.start (tables_of c.args.thresholds.now c.args.cerr_min.now c.args.cap) in
     all_added_lem c.loop-left.total _ _ (2 ^ 64) c.loop-left.invariant.1 (turned called c.args.file.now c.loop-left.place c.loop-left.left (omega arith)) c.loop-left.invariant.0

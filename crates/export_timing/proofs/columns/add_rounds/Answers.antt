@@ -12,7 +12,7 @@ loop-n-init c = (omega arith, omega arith)
 
 pub loop-n-preserved : goal.loop-n-preserved
 loop-n-preserved c =
-    let g = tables_of c.args.thresholds.now c.args.cerr-min.now c.args.cap in
+    let g = tables_of c.args.thresholds.now c.args.cerr_min.now c.args.cap in
     let w = amounts_with (column_call_with c.args.rows.now c.args.start g) (columns_at c.args.file.now c.args.from c.args.count) in
     (omega arith, rw (c.add_round-sum.ensures, c.loop-n.invariant.1) (once_more c.loop-n.n w (2 ^ 64)))
 

@@ -17,8 +17,8 @@ overflow_add-i-in-loop-i-3 c =
 pub loop-i-preserved : goal.loop-i-preserved
 loop-i-preserved c =
     let s = c.args.script.now in
-    let t = adjusted_of c.args.correct.now c.args.error-per-alt.now in
-    let g = tables_of c.args.thresholds.now c.args.cerr-min.now c.args.cap in (
+    let t = adjusted_of c.args.correct.now c.args.error_per_alt.now in
+    let g = tables_of c.args.thresholds.now c.args.cerr_min.now c.args.cap in (
       omega arith,
       rw (c.wrapping_add_u64-total.ensures.value, c.amount_at-more.ensures, c.step-builder.ensures)
           (wrapped c.loop-i.total (amount_by g (get_or s c.loop-i.i 0) c.loop-i.builder) _ (2 ^ 64) ∙ ap (λ (k : ℕ). (c.loop-i.total + k) % 2 ^ 64) (sym (turn t g s c.loop-i.i c.loop-i.builder c.loop-i-test.true)) ∙ c.loop-i.invariant.1),
@@ -27,6 +27,6 @@ loop-i-preserved c =
 
 pub returns : goal.returns
 returns c =
-    let t = adjusted_of c.args.correct.now c.args.error-per-alt.now in
-    let g = tables_of c.args.thresholds.now c.args.cerr-min.now c.args.cap in
+    let t = adjusted_of c.args.correct.now c.args.error_per_alt.now in
+    let g = tables_of c.args.thresholds.now c.args.cerr_min.now c.args.cap in
     all_added_lem c.loop-i.total _ _ (2 ^ 64) c.loop-i.invariant.2 (turned t g c.args.script.now c.loop-i.i c.loop-i.builder (omega arith)) c.loop-i.invariant.1

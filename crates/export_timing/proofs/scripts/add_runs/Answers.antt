@@ -12,7 +12,7 @@ loop-n-init c = (omega arith, omega arith)
 
 pub loop-n-preserved : goal.loop-n-preserved
 loop-n-preserved c =
-    let w = amounts (adjusted_of c.args.correct.now c.args.error-per-alt.now) (tables_of c.args.thresholds.now c.args.cerr-min.now c.args.cap) (items c.args.script.now) c.args.start in
+    let w = amounts (adjusted_of c.args.correct.now c.args.error_per_alt.now) (tables_of c.args.thresholds.now c.args.cerr_min.now c.args.cap) (items c.args.script.now) c.args.start in
     (omega arith, rw (c.add_run-sum.ensures, c.loop-n.invariant.1) (once_more c.loop-n.n w (2 ^ 64)))
 
 pub returns : goal.returns

@@ -38,7 +38,7 @@ slice_bounds-put_either-end c =
 pub returns-in-Refused : goal.returns-in-Refused
 returns-in-Refused c =
     let strings : List (List ℕ) = strings_at 0 c.args.set.now c.args.places.now in
-    let found = found_by c.args.text.now c.args.had-errors c.args.caller.builder in
+    let found = found_by c.args.text.now c.args.had_errors c.args.caller.builder in
     let refusal = group_refused c.strand_consensus-b.result c.args.caller (consensus_of c.args.caller (strand_of 66 strings)) c.strand_consensus-b.ensures.group _ c.in-Refused.is in record { gave = rw (second_refused c.args.caller strings c.args.out.now found _ refusal) (pair_refused c.args.caller _ c.args.out.now _ refl); short = rw (second_refused c.args.caller strings c.args.out.now found _ refusal) (omega arith) }
 
 pub returns-in-Given : goal.returns-in-Given

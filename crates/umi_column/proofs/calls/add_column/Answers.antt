@@ -12,9 +12,9 @@ pub loop-i-preserved : goal.loop-i-preserved
 loop-i-preserved c =
     (
       omega arith,
-      added_more c.args.correct c.args.error-per-alt c.args.column.now c.loop-i.i c.loop-i.after _ (omega arith) c.add_entry-addition.ensures.builder ∙ c.loop-i.invariant.1,
+      added_more c.args.correct c.args.error_per_alt c.args.column.now c.loop-i.i c.loop-i.after _ (omega arith) c.add_entry-addition.ensures.builder ∙ c.loop-i.invariant.1,
     )
 
 pub returns : goal.returns
 returns c =
-    sym (added_none c.args.correct c.args.error-per-alt c.args.column.now c.loop-i.i c.loop-i.after (omega arith)) ∙ c.loop-i.invariant.1
+    sym (added_none c.args.correct c.args.error_per_alt c.args.column.now c.loop-i.i c.loop-i.after (omega arith)) ∙ c.loop-i.invariant.1

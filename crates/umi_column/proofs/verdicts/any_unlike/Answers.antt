@@ -11,6 +11,7 @@ use Rattle.umi_column.specs.Dna.{is_dna_base}
 use Rattle.umi_column.specs.Verdicts.{is_unlike}
 use Rattle.words.proofs.Tests.{any-more, any_found, any_none}
 use Rattle.umi_column.proofs.verdicts.any_unlike.Goals as goal
+use Rattle.umi_column.proofs.verdicts.any_unlike.Goals.{then-b-first+else-not-is_dna_base, else-b-first}
 
 -- another byte, and no DNA
 unlike : (first x : ℕ) → (x ≡ first → ⊥) → is_dna_base x ≡ false → is_unlike first x ≡ true
@@ -36,10 +37,9 @@ pub loop-i-preserved : goal.loop-i-preserved
 loop-i-preserved c =
     let x = byte_at c.args.column.now c.loop-i.i in
     let like : is_unlike c.args.first x ≡ false =
-    ⊎_elim {C = is_unlike c.args.first x ≡ false}
-    (λ w. dna c.args.first x (sym w.1.ensures ∙ not-false _ w.2.false))
-    (λ w. same c.args.first x w.false)
-    c.if-b-first.branch in
+    elim c.if-b-first.branch [
+      then-b-first+else-not-is_dna_base w ↦ dna c.args.first x (sym w.is_dna_base.ensures ∙ w.if-not-is_dna_base.false)
+    | else-b-first w ↦ same c.args.first x w.if-b-first.false ] in
     (omega arith, any-more (is_unlike c.args.first) c.args.column.now 0 c.loop-i.i (omega arith) like ∙ c.loop-i.invariant.1)
 
 pub returns : goal.returns

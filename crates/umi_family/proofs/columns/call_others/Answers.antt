@@ -5,7 +5,7 @@ use Rattle.umi_family.proofs.columns.call_others.Goals as goal
 pub call_counted-requires : goal.call_counted-requires
 call_counted-requires c =
     let so = c.counts_decide.ensures c.if-counts_decide.true in
-    (rw c.window_of-window.ensures (named_by_counts c.args.correct c.args.error-per-alt so.1), c.requires, c.if-text-le255.true)
+    (rw c.window_of-window.ensures (named_by_counts c.args.correct c.args.error_per_alt so.1), c.requires, c.if-text-le255.true)
 
 pub returns-then-counts_decide : goal.returns-then-counts_decide
 returns-then-counts_decide c =

@@ -19,7 +19,7 @@ pub slice_bounds-fit-end : goal.slice_bounds-fit-end
 slice_bounds-fit-end c = sym (length-take-le 1 c.args.places.now c.requires)
 
 pub returns-then-not-fit : goal.returns-then-not-fit
-returns-then-not-fit c = record { group = rw (first_cut_off c.args.builder c.args.had-errors c.args.width c.args.set.now c.args.places.now (sym c.fit.ensures ∙ c.if-not-fit.true)) c.refused_group.ensures; lent = rw (first_cut_off c.args.builder c.args.had-errors c.args.width c.args.set.now c.args.places.now (sym c.fit.ensures ∙ c.if-not-fit.true)) refl }
+returns-then-not-fit c = record { group = rw (first_cut_off c.args.builder c.args.had_errors c.args.width c.args.set.now c.args.places.now (sym c.fit.ensures ∙ c.if-not-fit.true)) c.refused_group.ensures; lent = rw (first_cut_off c.args.builder c.args.had_errors c.args.width c.args.set.now c.args.places.now (sym c.fit.ensures ∙ c.if-not-fit.true)) refl }
 
 pub overflow_add-from : goal.overflow_add-from
 overflow_add-from c =
@@ -48,7 +48,7 @@ returns-then-not-write_front c =
     let text = take c.args.width (drop from c.args.set.now) in
     let reply = rw (row_lent c.args.set.now from c.args.width) at c.write_front.ensures.reply in
     let lent = rw (row_lent c.args.set.now from c.args.width) at c.write_front.ensures.lent in
-    let short : length out < length text = leb-false _ _ (sym reply ∙ c.if-not-write_front.true) in record { group = rw (first_found c.args.builder c.args.had-errors c.args.width c.args.set.now c.args.places.now fits, room_short out (found_by text c.args.had-errors c.args.builder) short) c.refused_group-then-not-write_front.ensures; lent = rw (first_found c.args.builder c.args.had-errors c.args.width c.args.set.now c.args.places.now fits, room_short out (found_by text c.args.had-errors c.args.builder) short) (lent ∙ sym (short_written text out short)) }
+    let short : length out < length text = leb-false _ _ (sym reply ∙ c.if-not-write_front.true) in record { group = rw (first_found c.args.builder c.args.had_errors c.args.width c.args.set.now c.args.places.now fits, room_short out (found_by text c.args.had_errors c.args.builder) short) c.refused_group-then-not-write_front.ensures; lent = rw (first_found c.args.builder c.args.had_errors c.args.width c.args.set.now c.args.places.now fits, room_short out (found_by text c.args.had_errors c.args.builder) short) (lent ∙ sym (short_written text out short)) }
 
 pub returns : goal.returns
 returns c =
@@ -60,4 +60,4 @@ returns c =
     let text = take c.args.width (drop from c.args.set.now) in
     let reply = rw (row_lent c.args.set.now from c.args.width) at c.write_front.ensures.reply in
     let lent = rw (row_lent c.args.set.now from c.args.width) at c.write_front.ensures.lent in
-    let fit : length text ≤ length out = leb-true _ _ (sym reply ∙ c.if-not-write_front.false) in record { group = rw (first_found c.args.builder c.args.had-errors c.args.width c.args.set.now c.args.places.now fits, room_enough out (found_by text c.args.had-errors c.args.builder) fit) (rw size refl); lent = rw (first_found c.args.builder c.args.had-errors c.args.width c.args.set.now c.args.places.now fits, room_enough out (found_by text c.args.had-errors c.args.builder) fit) lent }
+    let fit : length text ≤ length out = leb-true _ _ (sym reply ∙ c.if-not-write_front.false) in record { group = rw (first_found c.args.builder c.args.had_errors c.args.width c.args.set.now c.args.places.now fits, room_enough out (found_by text c.args.had_errors c.args.builder) fit) (rw size refl); lent = rw (first_found c.args.builder c.args.had_errors c.args.width c.args.set.now c.args.places.now fits, room_enough out (found_by text c.args.had_errors c.args.builder) fit) lent }
