@@ -27,14 +27,14 @@ pub returns-then-not-same_bytes : goal.returns-then-not-same_bytes
 returns-then-not-same_bytes c =
     let t = c.args.text.now in
     let from = byte_at c.args.places.now c.loop-k.k + 1 in
-    let said = row_told (λ r. not (same_bytes r t)) c.args.set.now from (length t) _ _ (ap not c.same_bytes.ensures) c.if-not-same_bytes.true in
+    let said = row_told (λ r. not (same_bytes r t)) c.args.set.now from (length t) _ _ (ap not c.same_bytes.ensures) (ap not c.if-not-same_bytes.true) in
     given_found _ c.args.places.now _ c.loop-k.k (omega arith) said ∙ c.loop-k.invariant.1
 
 pub loop-k-preserved : goal.loop-k-preserved
 loop-k-preserved c =
     let t = c.args.text.now in
     let from = byte_at c.args.places.now c.loop-k.k + 1 in
-    let said = row_told (λ r. not (same_bytes r t)) c.args.set.now from (length t) _ _ (ap not c.same_bytes.ensures) c.if-not-same_bytes.false in
+    let said = row_told (λ r. not (same_bytes r t)) c.args.set.now from (length t) _ _ (ap not c.same_bytes.ensures) (ap not c.if-not-same_bytes.false) in
     (omega arith, given_more _ c.args.places.now _ c.loop-k.k (omega arith) said ∙ c.loop-k.invariant.1)
 
 pub returns : goal.returns
