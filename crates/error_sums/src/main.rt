@@ -2,6 +2,7 @@
 // standard output; that a read or a write failed is said on standard error, and there alone, and by the
 // exit status 1.
 #![tactic(auto)]
+
 ghost use Rattle.std.specs.Prelude.{◌≡◌, length};
 
 use column_errors::{INPUT_ROOM, TEXT_ROOM};

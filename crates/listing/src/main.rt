@@ -1,6 +1,7 @@
 // Lists the column file on standard input. A refused file has its line on standard output; that a read
 // or a write failed is said on standard error, and there alone, and by the exit status 1.
 #![tactic(auto)]
+
 ghost use Rattle.std.specs.Prelude.{◌≡◌, length};
 
 use std::io::Read;

@@ -1,6 +1,7 @@
 // Replays a stored list of answers: reads each line from standard input, works its answer out anew
 // and compares the two, bit for bit. The counts at the end say how many answers were compared.
 #![tactic(auto)]
+
 mod answers;
 mod builders;
 mod counts;
