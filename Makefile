@@ -37,9 +37,6 @@ unexport EXPORTS_FOLDER
 help: ## list the targets
 	@sed -n 's/^\([a-z]*\):[^#]*## \(.*\)/\1\t\2/p' $(MAKEFILE_LIST) | expand -t 14
 
-# rt starts a batch of checks and waits for all of it: with four at a time no processor is idle while
-# the longest one ends. Each takes about 1 GB.
-test: export RT_JOBS ?= 4
 # The prover fills and frees gigabytes: with large pages a check takes 5 to 10 percent less time.
 test: export GLIBC_TUNABLES ?= glibc.malloc.hugetlb=1
 test: need-rt ## everything: layout, all proofs from nothing, comparison beside the Rust (COMPARISON=required)
@@ -55,10 +52,10 @@ try: need-rt ## list a file in seconds, with nothing proved (SAMPLE=FILE)
 	@tests/try-listing "$$SAMPLE"
 
 check: need-rt ## prove what changed, and run the programs
-	rt check
+	rt all test
 
 library: need-rt ## prove the crates and write target/dist: libconsensus for C, Rust and Python, with its header
-	rt staticlib exports
+	cd crates/exports && rt lib
 	@packaging/make-dist
 
 # Where `make install` puts the library.
@@ -81,12 +78,12 @@ bench: library ## times, the Rust's beside ours (BENCH=--markdown)
 	@differential/run bench $(BENCH)
 
 fmt: need-rt ## lay out the Rattle, and the Rust if cargo is there
-	rt fmt
+	for root in crates/*/src/lib.rt crates/*/src/main.rt; do (cd "$${root%/src/*}" && rt fmt); done
 	cd differential && if cargo fmt --version >/dev/null 2>&1; \
 		then cargo fmt && rustfmt --edition 2024 oracle/accessors/*.rs; fi
 
 clean: ## remove what was built
-	rm -rf target
+	rm -rf target crates/*/out
 
 need-rt:
 	@command -v rt >/dev/null || { echo 'make: there is no rt on the PATH: it is the Rattle' \

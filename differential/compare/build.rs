@@ -1,4 +1,4 @@
-//! Links the static library of the proved crate `exports`, which `rt staticlib exports` writes.
+//! Links the static library of the proved crate `exports`, which `rt lib` writes in its folder.
 
 use std::env;
 use std::path::{Path, PathBuf};
@@ -15,6 +15,6 @@ fn main() {
 fn library_folder() -> PathBuf {
     println!("cargo::rerun-if-env-changed=EXPORTS_FOLDER");
     let manifest = env::var_os("CARGO_MANIFEST_DIR").expect("cargo sets CARGO_MANIFEST_DIR");
-    let folder = env::var_os("EXPORTS_FOLDER").unwrap_or("../../target/staticlib".into());
+    let folder = env::var_os("EXPORTS_FOLDER").unwrap_or("../../crates/exports/out".into());
     Path::new(&manifest).join(folder)
 }

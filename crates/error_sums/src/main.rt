@@ -1,11 +1,13 @@
 // Prints the error sum of each column of the file on standard input. A refused file has its line on
-// standard output; that a read or a write failed is said on standard error, and there alone: the language
-// has no exit status.
+// standard output; that a read or a write failed is said on standard error, and there alone, and by the
+// exit status 1.
 #![tactic(auto)]
+
 ghost use Rattle.std.specs.Prelude.{◌≡◌, length};
 
 use column_errors::{INPUT_ROOM, TEXT_ROOM};
-use libc::{STDERR_FILENO, STDIN_FILENO, STDOUT_FILENO};
+use std::io::Read;
+use std::process::ExitCode;
 
 // How many bytes came in, or that a read failed.
 #[derive(Clone, Copy)]
@@ -26,48 +28,42 @@ fn text_room() -> [u8; TEXT_ROOM] {
 }
 
 // Reads until the room is full or the input ends. A read that fails is not its end.
-fn read_input(room: &mut [u8]) -> Input {
+fn read_input<R: Read>(input: &mut R, room: &mut [u8]) -> Input {
     let mut done = 0;
     while done < room.len() {
-        let got = libc::read(STDIN_FILENO, &mut room[done..]);
-        if got < 0 {
-            return Input::Failed;
+        match input.read(&mut room[done..]) {
+            Ok(0) => break,
+            Ok(more) => done += more,
+            Err(_) => return Input::Failed,
         }
-        let more = io::count(got, &room[done..]);
-        if more == 0 {
-            break;
-        }
-        done += more;
     }
     Input::Read(done)
 }
 
+// Where standard error takes no line either, the status alone says that something failed.
+fn fail(rt: &impl Eprint, what: &str) -> ExitCode {
+    let _ = eprintln!(rt; "error_sums: {what}");
+    ExitCode::FAILURE
+}
+
 // A text that is cut must not pass for a whole one.
-fn write_text(text: &[u8]) {
-    if !io::write_all(STDOUT_FILENO, text) {
-        io::write_all(
-            STDERR_FILENO,
-            b"error_sums: not all of the text could be written\n",
-        );
+fn write_text(rt: &(impl Print + Eprint), text: &[u8]) -> ExitCode {
+    match rt.write_all(text) {
+        Ok(()) => ExitCode::SUCCESS,
+        Err(_) => fail(rt, "not all of the text could be written"),
     }
 }
 
-fn sum(room: &[u8; INPUT_ROOM], read: usize) {
+fn sum(rt: &(impl Print + Eprint), room: &[u8; INPUT_ROOM], read: usize) -> ExitCode {
     let mut text = text_room();
     let n = column_errors::print_stream(room, read, &mut text);
-    write_text(&text[..n]);
+    write_text(rt, &text[..n])
 }
 
-fn main() {
+fn main(rt: HostRuntime) -> ExitCode {
     let mut room = input_room();
-    let input = read_input(&mut room);
-    match input {
-        Input::Failed => {
-            io::write_all(
-                STDERR_FILENO,
-                b"error_sums: standard input could not be read\n",
-            );
-        }
-        Input::Read(n) => sum(&room, n),
+    match read_input(&mut rt.stdin(), &mut room) {
+        Input::Failed => fail(&rt, "standard input could not be read"),
+        Input::Read(n) => sum(&rt, &room, n),
     }
 }

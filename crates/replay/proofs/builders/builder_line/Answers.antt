@@ -11,6 +11,7 @@ returns-then-line-ne450 c = rw (ne_eqb _ _ c.if-line-ne450.true)
 
 pub returns-then-not-formed : goal.returns-then-not-formed
 unfolding builder_line
+
 unfolding is_builder_line
 returns-then-not-formed c =
     let line : List ℕ = c.args.line.now in
@@ -24,6 +25,7 @@ returns-then-not-formed c =
 
 pub returns : goal.returns
 unfolding builder_line
+
 unfolding is_builder_line
 returns c =
     let line : List ℕ = c.args.line.now in

@@ -15,13 +15,12 @@ pub returns-then-low-gt15 : goal.returns-then-low-gt15
 returns-then-low-gt15 c = record { value = digits_decide _ c.if-field-ne32.false (sym c.loop-i.invariant.2 ∙ low_stops _ c.loop-i.i (omega arith) (omega (arith, c.digit-high.ensures)) (omega (arith, c.digit-low.ensures))); out_after = λ e. cc }
 
 pub loop-i-preserved : goal.loop-i-preserved
-loop-i-preserved c =
-    (
-      simp length-set (omega arith),
-      simp length-set c.loop-i.invariant.1,
-      sym (digits_go_on _ c.loop-i.i (omega arith) (omega (arith, c.digit-high.ensures)) (omega (arith, c.digit-low.ensures))) ∙ c.loop-i.invariant.2,
-      next_byte _ c.loop-i.i (omega arith) c.loop-i.out _ (omega arith) (omega (arith, c.digit-high.ensures, c.digit-low.ensures)) ∙ c.loop-i.invariant.3,
-    )
+loop-i-preserved c = (
+  simp length-set (omega arith),
+  simp length-set c.loop-i.invariant.1,
+  sym (digits_go_on _ c.loop-i.i (omega arith) (omega (arith, c.digit-high.ensures)) (omega (arith, c.digit-low.ensures))) ∙ c.loop-i.invariant.2,
+  next_byte _ c.loop-i.i (omega arith) c.loop-i.out _ (omega arith) (omega (arith, c.digit-high.ensures, c.digit-low.ensures)) ∙ c.loop-i.invariant.3,
+)
 
 pub returns : goal.returns
 returns c =

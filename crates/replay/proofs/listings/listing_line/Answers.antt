@@ -11,6 +11,7 @@ returns-then-line-ne1292 c = rw (ne_eqb _ _ c.if-line-ne1292.true)
 
 pub returns-then-not-formed : goal.returns-then-not-formed
 unfolding listing_line
+
 unfolding is_listing_line
 returns-then-not-formed c =
     let line : List ℕ = c.args.line.now in
@@ -21,6 +22,7 @@ returns-then-not-formed c =
 
 pub returns : goal.returns
 unfolding listing_line
+
 unfolding is_listing_line
 returns c =
     let line : List ℕ = c.args.line.now in
