@@ -2,7 +2,7 @@
 use Rattle.std.specs.Prelude.{ℕ, ◌+◌, ◌%◌, ◌^◌, min, Bool, not, ◌&&◌, ◌||◌, List, leb, ltb, eqb, get_or, replicate, Float}
 use Rattle.std.specs.Float.{nan}
 use Rattle.float.specs.Ops.{plus_zero}
-use Rattle.words.specs.Choice.{if◌then◌else◌}
+use Rattle.std.specs.Prelude.{if◌then◌else◌}
 use Rattle.phred.specs.Phred.{phred_to_ln_error_prob}
 use Rattle.phred.specs.declared.LogProbability.{LogProbability}
 use Rattle.refusals.specs.declared.Refusal.TheVariants.{FullBuilder}

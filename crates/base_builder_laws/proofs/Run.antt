@@ -10,7 +10,7 @@ use lib.ListN.{get_or, get_or-replicate, length}
 use lib.Ieee.{nan}
 use borrow.Author.Tests.{leb-false}
 use Rattle.float.specs.Ops.{plus_zero}
-use Rattle.words.specs.Choice.{if◌then◌else◌}
+use Rattle.std.specs.Prelude.{if◌then◌else◌}
 use Rattle.words.proofs.Cases.{choice}
 use Rattle.phred.specs.Phred.{phred_to_ln_error_prob}
 use Rattle.phred.specs.declared.LogProbability.{LogProbability}

@@ -2,7 +2,7 @@
 use Rattle.std.specs.Prelude.{ℕ, ◌+◌, ◌||◌, List, [], ◌∷◌, leb, eqb, get_or, length, Float}
 use Rattle.std.specs.Float.{nan}
 use Rattle.float.specs.Ops.{plus_zero}
-use Rattle.words.specs.Choice.{if◌then◌else◌}
+use Rattle.std.specs.Prelude.{if◌then◌else◌}
 use Rattle.rate_tables.specs.declared.adjusted.AdjustedProbabilityTables.{AdjustedProbabilityTables}
 use Rattle.tie_rules.specs.Lanes.{no_lane, lane_of_byte}
 use Rattle.lane_sums.specs.declared.observation.Sum.{Sum}

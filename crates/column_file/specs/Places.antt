@@ -1,6 +1,6 @@
 -- As it is run; `layout` (column_file/proofs/FileLayout) joins it to `read_file`: the parts of a file by their places, and what the functions reply.
 use Rattle.std.specs.Prelude.{◌≡◌, ℕ, zero, suc, ◌+◌, ◌*◌, ◌≤◌, List, [], ◌∷◌, leb, length, drop}
-use Rattle.words.specs.Choice.{if◌then◌else◌}
+use Rattle.std.specs.Prelude.{if◌then◌else◌}
 use Rattle.words.specs.Lists.{byte_at}
 use Rattle.refusals.specs.declared.Refusal.TheVariants.{CutOff}
 use Rattle.refusals.specs.declared.Verdict.{Verdict}

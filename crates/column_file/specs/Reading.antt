@@ -1,6 +1,6 @@
 -- What a column file says, or the number by which it is refused.
 use Rattle.std.specs.Prelude.{ℕ, ◌&&◌, List, leb, eqb, length}
-use Rattle.words.specs.Choice.{if◌then◌else◌}
+use Rattle.std.specs.Prelude.{if◌then◌else◌}
 use Rattle.words.specs.Lists.{byte_at}
 use Rattle.refusals.specs.declared.Refusal.TheVariants.{BadSettings, AbsentQuality}
 use Rattle.refusals.specs.declared.Verdict.{Verdict}

@@ -11,7 +11,7 @@ use Rattle.refusals.specs.declared.Verdict.{Verdict}
 use Rattle.refusals.specs.declared.Verdict.TheVariants.{Sound, Refused}
 use Rattle.refusals.specs.Refusals.{number_in}
 use Rattle.refusals.specs.Result.{refused, accepted, or_else, first_refused}
-use Rattle.words.specs.Choice.{if◌then◌else◌}
+use Rattle.std.specs.Prelude.{if◌then◌else◌}
 use Rattle.string_set.specs.Readers.{alone, longest_file}
 use Rattle.column_file.specs.Format.{Observation, Sections, sections}
 use Rattle.column_file.specs.Reading.{settings_of, observation_verdict, column_verdict, columns_verdict, file_of, read_file}

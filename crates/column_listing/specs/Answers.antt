@@ -1,6 +1,6 @@
 -- What the functions reply, and what the borrowed buffer holds afterwards.
 use Rattle.std.specs.Prelude.{ℕ, List, ltb, leb, length}
-use Rattle.words.specs.Choice.{if◌then◌else◌}
+use Rattle.std.specs.Prelude.{if◌then◌else◌}
 use Rattle.lent_bytes.specs.Buffer.{written}
 use Rattle.refusals.specs.declared.Refusal.TheVariants.{BufferTooShort}
 use Rattle.refusals.specs.Refusals.{number_of}

@@ -1,6 +1,6 @@
 -- What holds of the lines of every file, and how long its listing is.
 use Rattle.std.specs.Prelude.{◌≡◌, Bool, true, false, List, [], ◌∷◌, ℕ, ◌+◌, ◌≤◌, ◌<◌, eqb, length, get_or}
-use Rattle.words.specs.Choice.{if◌then◌else◌}
+use Rattle.std.specs.Prelude.{if◌then◌else◌}
 use Rattle.words.specs.Lists.{any, last_or, is_empty}
 use Rattle.lent_text.specs.Text.{newline}
 use Rattle.umi_groups.specs.Found.{Found}

@@ -1,6 +1,6 @@
 -- A step of writing a column file: what comes of it, and what is refused.
 use Rattle.std.specs.Prelude.{ℕ, ◌+◌, not, List, ltb, length}
-use Rattle.words.specs.Choice.{if◌then◌else◌}
+use Rattle.std.specs.Prelude.{if◌then◌else◌}
 use Rattle.lent_bytes.specs.Buffer.{written_at}
 use Rattle.refusals.specs.declared.Refusal.TheVariants.{FileTooLong, NoRoomForPart, OutOfTurn}
 use Rattle.refusals.specs.Refusals.{number_of}

@@ -3,7 +3,7 @@ use Rattle.std.specs.Prelude.{ℕ, ◌+◌, ◌-◌, ◌*◌, ◌/◌, ◌%◌, 
 use Rattle.std.specs.Float.{binary64}
 use Rattle.std.specs.Float.Ieee.{to_bits, lt, le, ne}
 use Rattle.float.specs.Ops.{◌⊕◌, ◌⊖◌, ◌⊗◌, bits, plus_zero, plus_infinity}
-use Rattle.words.specs.Choice.{if◌then◌else◌}
+use Rattle.std.specs.Prelude.{if◌then◌else◌}
 use Rattle.elementary.specs.Fma.{fma_small_product_of}
 use Rattle.elementary_tables.specs.declared.exp_table.ExpRow.{ExpRow}
 use Rattle.elementary_tables.specs.ExpTable.{exp_row_of}

@@ -3,7 +3,7 @@ use Rattle.std.specs.Prelude.{Float}
 use Rattle.std.specs.Float.Ieee.{eq, neg}
 use Rattle.elementary.specs.declared.exp_minus_one.Correction.{Correction}
 use Rattle.float.specs.Ops.{◌⊕◌, ◌⊖◌, ◌⊗◌, ◌⊘◌, bits, plus_zero, one, half, three, six}
-use Rattle.words.specs.Choice.{if◌then◌else◌}
+use Rattle.std.specs.Prelude.{if◌then◌else◌}
 use Rattle.float.specs.Methods.{between_of}
 use Rattle.elementary.specs.Fma.{fma_small_product_of, fma_large_product_of}
 use Rattle.elementary.specs.Exp.{exp_of}

@@ -5,7 +5,7 @@ use Rattle.std.specs.Float.{binary64}
 use Rattle.std.specs.Float.Ieee.{to_bits, lt, le, eq, neg}
 use Rattle.elementary_tables.specs.declared.ln_table.LnRow.{LnRow}
 use Rattle.float.specs.Ops.{◌⊕◌, ◌⊖◌, ◌⊗◌, ◌⊘◌, bits, whole, plus_zero, one}
-use Rattle.words.specs.Choice.{if◌then◌else◌}
+use Rattle.std.specs.Prelude.{if◌then◌else◌}
 use Rattle.elementary.specs.Fma.{fma_small_product_of}
 use Rattle.elementary_tables.specs.LnTable.{ln_row_of}
 use Rattle.elementary.specs.LnOnePlus.{ln_one_plus_of}

@@ -5,7 +5,7 @@ use Rattle.std.specs.Float.Ieee.{to_bits, lt, le, eq, neg}
 use Rattle.elementary.specs.declared.ln_one_plus.Parts.{Parts}
 use Rattle.elementary.specs.declared.ln_one_plus.Series.{Series}
 use Rattle.float.specs.Ops.{◌⊕◌, ◌⊖◌, ◌⊗◌, ◌⊘◌, bits, whole, plus_zero, one, half}
-use Rattle.words.specs.Choice.{if◌then◌else◌}
+use Rattle.std.specs.Prelude.{if◌then◌else◌}
 use Rattle.float.specs.Methods.{between_of}
 use Rattle.elementary.specs.Fma.{fma_large_product_of}
 

@@ -1,7 +1,7 @@
 -- A builder of 80 given bytes.
 use Rattle.std.specs.Prelude.{ℕ, ◌+◌, ◌*◌, List, [], eqb, length}
 use Rattle.float.specs.Ops.{bits}
-use Rattle.words.specs.Choice.{if◌then◌else◌}
+use Rattle.std.specs.Prelude.{if◌then◌else◌}
 use Rattle.lent_bytes.specs.Bytes.{number_at}
 use Rattle.phred.specs.Phred.{phred_to_ln_error_prob}
 use Rattle.tie_rules.specs.declared.tie_rule.TieRule.TheVariants.{FgbioCompat}

@@ -1,6 +1,6 @@
 // A report: 91 bytes on a builder.
 ghost use Rattle.std.specs.Prelude.{◌≡◌, ◌+◌, ◌≤◌, [], ltb, length};
-ghost use Rattle.words.specs.Choice.{if◌then◌else◌};
+ghost use Rattle.std.specs.Prelude.{if◌then◌else◌};
 ghost use Rattle.unanimous_shortcut.specs.Unanimous.{tables_of};
 ghost use Rattle.export_reports.specs.Bytes.{Put};
 ghost use Rattle.export_reports.specs.Report.{patterns_of, counts_of, builder_bytes, call_bytes, reply_bytes, calls_bytes, report_of};

@@ -1,6 +1,6 @@
 // A script: items of three bytes each.
 ghost use Rattle.std.specs.Prelude.{◌≡◌, ltb};
-ghost use Rattle.words.specs.Choice.{if◌then◌else◌};
+ghost use Rattle.std.specs.Prelude.{if◌then◌else◌};
 ghost use Rattle.rate_tables.specs.Adjusted.{adjusted_of};
 ghost use Rattle.export_scripts.specs.Script.{item_of, items, is_item, is_script, questions, refusals, passed};
 

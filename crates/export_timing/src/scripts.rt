@@ -1,7 +1,7 @@
 // A script that is run many times, for timing: the tables are built once and borrowed, and no report is
 // written.
 ghost use Rattle.std.specs.Prelude.{◌≡◌, ◌+◌, ◌*◌, ◌%◌, ◌^◌, ◌==◌, nat_lt};
-ghost use Rattle.words.specs.Choice.{if◌then◌else◌};
+ghost use Rattle.std.specs.Prelude.{if◌then◌else◌};
 ghost use Rattle.unanimous_shortcut.specs.Unanimous.{tables_of};
 ghost use Rattle.base_builder.specs.Calls.{call_of, call_full_of};
 ghost use Rattle.rate_tables.specs.Adjusted.{adjusted_of};

@@ -1,6 +1,6 @@
 -- Replies in one number, and the functions by number at the defaults.
 use Rattle.std.specs.Prelude.{ℕ, ◌+◌, ◌*◌, Bool, true, false, List, eqb}
-use Rattle.words.specs.Choice.{if◌then◌else◌}
+use Rattle.std.specs.Prelude.{if◌then◌else◌}
 use Rattle.refusals.specs.Refusals.{number_of}
 use Rattle.simple_consensus.specs.declared.answers.Answer.{Answer}
 use Rattle.simple_consensus.specs.declared.answers.Answer.TheVariants as answer

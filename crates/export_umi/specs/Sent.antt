@@ -1,6 +1,6 @@
 -- The functions of a caller by number, with its builder afterwards behind the string.
 use Rattle.std.specs.Prelude.{ℕ, List, ◌++◌, leb, eqb, length, replicate}
-use Rattle.words.specs.Choice.{if◌then◌else◌}
+use Rattle.std.specs.Prelude.{if◌then◌else◌}
 use Rattle.lent_bytes.specs.Buffer.{written}
 use Rattle.refusals.specs.Result.{Result, refused, accepted}
 use Rattle.export_reports.specs.Report.{builder_bytes}

@@ -1,6 +1,6 @@
 // The functions of a new caller, with its builder afterwards behind the string.
 ghost use Rattle.std.specs.Prelude.{◌≡◌, ◌++◌, leb, length};
-ghost use Rattle.words.specs.Choice.{if◌then◌else◌};
+ghost use Rattle.std.specs.Prelude.{if◌then◌else◌};
 ghost use Rattle.lent_bytes.specs.Buffer.{written};
 ghost use Rattle.export_reports.specs.Report.{builder_bytes};
 ghost use Rattle.simple_consensus.specs.Consensus.{caller_at};

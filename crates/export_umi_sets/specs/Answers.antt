@@ -1,6 +1,6 @@
 -- What sets in turn are answered by one caller.
 use Rattle.std.specs.Prelude.{ℕ, List, [], ◌∷◌, ◌++◌, eqb}
-use Rattle.words.specs.Choice.{if◌then◌else◌}
+use Rattle.std.specs.Prelude.{if◌then◌else◌}
 use Rattle.string_set.specs.Readers.{Taken, taken, short}
 use Rattle.lent_bytes.specs.Bytes.{number_bytes}
 use Rattle.export_reports.specs.Report.{builder_bytes}

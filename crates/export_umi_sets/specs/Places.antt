@@ -1,6 +1,6 @@
 -- Sets by the places of their lengths, and what a walk over them gives.
 use Rattle.std.specs.Prelude.{ℕ, ◌+◌, ◌≡◌, List, leb, length}
-use Rattle.words.specs.Choice.{if◌then◌else◌}
+use Rattle.std.specs.Prelude.{if◌then◌else◌}
 use Rattle.lent_bytes.specs.Bytes.{number_at}
 use Rattle.lent_text.specs.Printed.{Printed}
 use Rattle.string_set.specs.Readers.{Taken, taken, short}

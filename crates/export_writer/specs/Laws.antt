@@ -1,6 +1,6 @@
 -- What is numbered is read back, and steps by numbers are the steps.
 use Rattle.std.specs.Prelude.{◌≡◌, true, List, [], ◌∷◌, ℕ, ◌≤◌, ◌<◌, ltb}
-use Rattle.words.specs.Choice.{if◌then◌else◌}
+use Rattle.std.specs.Prelude.{if◌then◌else◌}
 use Rattle.refusals.specs.Result.{accepted}
 use Rattle.string_set.specs.Readers.{longest_file}
 use Rattle.column_writer.specs.declared.stages.Stage.{Stage}

@@ -1,6 +1,6 @@
 -- A writer as one number that nobody takes apart, 256 or more, and the writer of a number. `NumberLaws` (Laws): each leads back to the other.
 use Rattle.std.specs.Prelude.{ℕ, ◌+◌, ◌-◌, ◌*◌, ◌/◌, ◌%◌, Bool, ◌&&◌, ◌||◌, eqb, leb, ltb}
-use Rattle.words.specs.Choice.{if◌then◌else◌}
+use Rattle.std.specs.Prelude.{if◌then◌else◌}
 use Rattle.refusals.specs.declared.Refusal.TheVariants.{OutOfTurn}
 use Rattle.refusals.specs.Refusals.{number_of}
 use Rattle.refusals.specs.Result.{Result, refused, accepted}

@@ -3,7 +3,7 @@ use Rattle.std.specs.Prelude.{ℕ, ◌+◌, List, [], ◌∷◌, ltb, get_or, Fl
 use Rattle.std.specs.Float.{nan}
 use Rattle.std.specs.Float.Ieee.{neg}
 use Rattle.float.specs.Ops.{◌⊕◌, ◌⊗◌, ◌⊘◌, plus_zero, one, three}
-use Rattle.words.specs.Choice.{if◌then◌else◌}
+use Rattle.std.specs.Prelude.{if◌then◌else◌}
 use Rattle.elementary.specs.Exp.{exp_of}
 use Rattle.phred.specs.Phred.{phred_to_ln_error_prob, ln_prob_to_phred, ln_error_prob_two_trials, ln_sum_exp_array, ln_normalize, ln_not}
 use Rattle.gap_tables.specs.declared.gaps.UnanimousGapTables.{UnanimousGapTables}

@@ -4,7 +4,7 @@ use Rattle.std.specs.Float.Ieee.{le, eq}
 use Rattle.std.specs.Float.Ieee.Scale.{finite}
 use Rattle.gap_tables.specs.declared.thresholds.Ends.{Ends}
 use Rattle.float.specs.Ops.{◌⊕◌, ◌⊗◌, bits, plus_zero, half, plus_infinity}
-use Rattle.words.specs.Choice.{if◌then◌else◌}
+use Rattle.std.specs.Prelude.{if◌then◌else◌}
 
 -- the narrowest gap, 0, and the widest, 256
 abbrev pub gap0 : Float

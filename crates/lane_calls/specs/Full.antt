@@ -1,6 +1,6 @@
 -- The long calculation, which asks neither shortcut.
 use Rattle.std.specs.Prelude.{ℕ, List, ltb, Float}
-use Rattle.words.specs.Choice.{if◌then◌else◌}
+use Rattle.std.specs.Prelude.{if◌then◌else◌}
 use Rattle.phred.specs.Phred.{ln_prob_to_phred, ln_error_prob_two_trials, ln_sum_exp_array, ln_normalize, ln_not}
 use Rattle.tie_rules.specs.declared.tie_rule.TieRule.{TieRule}
 use Rattle.tie_rules.specs.Lanes.{lane, no_lane}

@@ -1,7 +1,7 @@
 -- As it is run; `named_reply` (lane_calls/proofs/AddedTests) joins it to `multibase_reply`: the shortcut for the lane that the rule names.
 use Rattle.std.specs.Prelude.{ℕ, List, Float}
 use Rattle.std.specs.Float.Ieee.Scale.{finite}
-use Rattle.words.specs.Choice.{if◌then◌else◌}
+use Rattle.std.specs.Prelude.{if◌then◌else◌}
 use Rattle.lane_calls.specs.declared.call.Reply.{Reply}
 use Rattle.lane_calls.specs.declared.call.Reply.TheVariants.{Deferred}
 use Rattle.lane_calls.specs.Multibase.{rest_reply}

@@ -1,7 +1,7 @@
 -- What one observation does to the lanes.
 use Rattle.std.specs.Prelude.{ℕ, ◌+◌, ◌%◌, ◌^◌, ◌==◌, Float}
 use Rattle.float.specs.Ops.{◌⊕◌, ◌⊖◌}
-use Rattle.words.specs.Choice.{if◌then◌else◌}
+use Rattle.std.specs.Prelude.{if◌then◌else◌}
 use Rattle.tie_rules.specs.Lanes.{lanes, lane}
 use Rattle.lane_sums.specs.declared.observation.Sum.{Sum}
 use Rattle.lane_sums.specs.declared.observation.LaneSums.{LaneSums}

@@ -1,6 +1,6 @@
 -- What a borrowed buffer holds afterwards.
 use Rattle.std.specs.Prelude.{ℕ, ◌+◌, List, ◌++◌, leb, length, take, drop}
-use Rattle.words.specs.Choice.{if◌then◌else◌}
+use Rattle.std.specs.Prelude.{if◌then◌else◌}
 
 -- the bytes and then what was there, or, where it is too short, what it held
 unfoldable pub written : List ℕ → List ℕ → List ℕ

@@ -1,7 +1,7 @@
 -- As it is run; `added_same` (observation_windows/proofs/Laws) joins it to `added`: what observations do to a builder by a table of windows.
 use Rattle.std.specs.Prelude.{ℕ, ◌+◌, ◌*◌, ◌-◌, ◌/◌, ◌%◌, ◌||◌, List, [], ◌∷◌, eqb, get_or, Float}
 use Rattle.std.specs.Float.{nan}
-use Rattle.words.specs.Choice.{if◌then◌else◌}
+use Rattle.std.specs.Prelude.{if◌then◌else◌}
 use Rattle.words.specs.Lists.{listed}
 use Rattle.tie_rules.specs.Lanes.{no_lane, lane_of_byte}
 use Rattle.base_builder.specs.declared.builder.ConsensusBaseBuilder.{ConsensusBaseBuilder}

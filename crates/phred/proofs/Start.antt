@@ -11,7 +11,7 @@ use lib.ListN.{length, get_or, get_or-eq_default}
 use borrow.Author.Tests.{ltb-true, ltb-false}
 use lib.Ieee.{Float, nan, inf, fin, lt, eq, div, of_bits}
 use Rattle.float.specs.Ops.{plus_infinity}
-use Rattle.words.specs.Choice.{if◌then◌else◌}
+use Rattle.std.specs.Prelude.{if◌then◌else◌}
 use Rattle.words.proofs.Cases.{test, clash, refuted}
 use Rattle.float.proofs.Order.{nan_not_lt, lt_trans, lt_irrefl, lt_numbers, le_or, not_lt_le, eq_lt}
 use Rattle.phred.specs.declared.Lowest.{Lowest}

@@ -2,7 +2,7 @@
 use Rattle.std.specs.Prelude.{Float}
 use Rattle.std.specs.Float.Ieee.{lt}
 use Rattle.float.specs.Ops.{plus_infinity}
-use Rattle.words.specs.Choice.{if◌then◌else◌}
+use Rattle.std.specs.Prelude.{if◌then◌else◌}
 use Rattle.phred.specs.declared.four_lanes.FirstTwo.{FirstTwo}
 use Rattle.phred.specs.declared.four_lanes.FirstThree.{FirstThree}
 use Rattle.phred.specs.Phred.{ln_sum_exp}

@@ -4,7 +4,7 @@ use Rattle.std.specs.Prelude.{ℕ, suc, ◌+◌, min, max, Bool, true, ◌&&◌,
 use Rattle.std.specs.Float.{nan}
 use Rattle.std.specs.Float.Ieee.{lt, le, eq, neg, is_nan}
 use Rattle.float.specs.Ops.{◌⊕◌, ◌⊖◌, ◌⊗◌, ◌⊘◌, bits, whole, plus_zero, one, six, epsilon, plus_infinity}
-use Rattle.words.specs.Choice.{if◌then◌else◌}
+use Rattle.std.specs.Prelude.{if◌then◌else◌}
 use Rattle.float.specs.Methods.{abs_of, floor_of}
 use Rattle.elementary.specs.Exp.{exp_of}
 use Rattle.elementary.specs.ExpMinusOne.{exp_minus_one_of}

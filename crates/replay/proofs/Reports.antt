@@ -1,6 +1,6 @@
 -- What is written into a buffer of a report's length: a report, which is compared, or none. Assumes nothing.
 use Rattle.std.proofs.Common.{◌≡◌, ℕ, ◌≤◌, Bool, true, false, eqb, leb, List, length, sym, ◌∙◌, append-nil, arith, drop_of_length-le, eq-eqb, ne_eqb, leb-false}
-use Rattle.words.specs.Choice.{if◌then◌else◌}
+use Rattle.std.specs.Prelude.{if◌then◌else◌}
 use Rattle.words.proofs.Cases.{test}
 use Rattle.lent_bytes.specs.Buffer.{length_written, written}
 use Rattle.replay.specs.declared.lines.LineVerdict.TheVariants.{Equal, Differs, NotAnAnswer}

@@ -12,7 +12,7 @@ use Rattle.replay.specs.declared.functions.PairFunction.TheVariants.{LnAMinusB, 
 use Rattle.replay.specs.declared.hex.MaybeNumber.{MaybeNumber}
 use Rattle.replay.specs.declared.hex.MaybeNumber.TheVariants.{Number, NoNumber}
 use Rattle.float.specs.Ops.{bits}
-use Rattle.words.specs.Choice.{if◌then◌else◌}
+use Rattle.std.specs.Prelude.{if◌then◌else◌}
 use Rattle.elementary.specs.Exp.{exp_of}
 use Rattle.elementary.specs.Ln.{ln_of}
 use Rattle.elementary.specs.LnOnePlus.{ln_one_plus_of}

@@ -1,7 +1,7 @@
 -- A line of a builder: whether its report is what the script writes that is run from the builder.
 use Rattle.std.specs.Prelude.{ℕ, Bool, ◌&&◌, List, length, take, drop, ◌==◌, slice_index}
 use Rattle.words.specs.Lists.{same_bytes}
-use Rattle.words.specs.Choice.{if◌then◌else◌}
+use Rattle.std.specs.Prelude.{if◌then◌else◌}
 use Rattle.export_reports.specs.State.{builder_script_bytes}
 use Rattle.replay.specs.declared.lines.LineVerdict.{LineVerdict}
 use Rattle.replay.specs.declared.lines.LineVerdict.TheVariants.{Equal, Differs, NotAnAnswer}

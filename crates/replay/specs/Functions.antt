@@ -7,7 +7,7 @@ use Rattle.replay.specs.declared.functions.NumberFunction.TheVariants.{Exp, Ln, 
 use Rattle.replay.specs.declared.functions.PairFunction.TheVariants.{LnAMinusB, LnErrorProbTwoTrials, LnSumExp, LnNormalize}
 use Rattle.replay.specs.declared.functions.LineKind.{LineKind}
 use Rattle.replay.specs.declared.functions.LineKind.TheVariants.{FunctionLine, BuilderLine, ListingLine, UnknownLine}
-use Rattle.words.specs.Choice.{if◌then◌else◌}
+use Rattle.std.specs.Prelude.{if◌then◌else◌}
 
 -- no line has more bytes
 abbrev pub longest_line : ℕ

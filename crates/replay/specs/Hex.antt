@@ -1,6 +1,6 @@
 -- The number that hex digits write.
 use Rattle.std.specs.Prelude.{ℕ, ◌+◌, ◌-◌, ◌*◌, List, [], ◌∷◌, length, nat_lt}
-use Rattle.words.specs.Choice.{if◌then◌else◌}
+use Rattle.std.specs.Prelude.{if◌then◌else◌}
 use Rattle.replay.specs.declared.hex.MaybeNumber.{MaybeNumber}
 use Rattle.replay.specs.declared.hex.MaybeNumber.TheVariants.{Number, NoNumber}
 

@@ -1,6 +1,6 @@
 -- What a line of the stored list says: if its result is its function's, its report its builder's, its text its file's listing, bit for bit.
 use Rattle.std.specs.Prelude.{ℕ, zero, suc, ◌+◌, ◌*◌, true, false, ◌&&◌, List, length, take, drop, replicate, ◌==◌, slice_index, slice_set}
-use Rattle.words.specs.Choice.{if◌then◌else◌}
+use Rattle.std.specs.Prelude.{if◌then◌else◌}
 use Rattle.replay.specs.declared.functions.Function.{Function}
 use Rattle.replay.specs.declared.functions.LineKind.{LineKind}
 use Rattle.replay.specs.declared.functions.LineKind.TheVariants.{FunctionLine, BuilderLine, ListingLine, UnknownLine}

@@ -2,7 +2,7 @@
 use Rattle.std.specs.Prelude.{ℕ, ◌+◌, ◌*◌, Bool, ◌&&◌, List, length, take, drop, replicate, ◌==◌, nat_le, slice_index}
 use Rattle.words.specs.Lists.{same_bytes}
 use Rattle.lent_bytes.specs.Buffer.{length_written, written}
-use Rattle.words.specs.Choice.{if◌then◌else◌}
+use Rattle.std.specs.Prelude.{if◌then◌else◌}
 use Rattle.column_listing.specs.Listing.{listing_of}
 use Rattle.replay.specs.declared.lines.LineVerdict.{LineVerdict}
 use Rattle.replay.specs.declared.lines.LineVerdict.TheVariants.{Equal, Differs, NotAnAnswer}

@@ -1,6 +1,6 @@
 -- The consensus of a list of strings.
 use Rattle.std.specs.Prelude.{ℕ, not, List, map, length}
-use Rattle.words.specs.Choice.{if◌then◌else◌}
+use Rattle.std.specs.Prelude.{if◌then◌else◌}
 use Rattle.words.specs.Lists.{any, last_or}
 use Rattle.refusals.specs.Result.{Result, judged}
 use Rattle.base_builder.specs.declared.builder.ConsensusBaseBuilder.{ConsensusBaseBuilder}

@@ -1,6 +1,6 @@
 -- What is refused in a list of strings.
 use Rattle.std.specs.Prelude.{ℕ, List, length}
-use Rattle.words.specs.Choice.{if◌then◌else◌}
+use Rattle.std.specs.Prelude.{if◌then◌else◌}
 use Rattle.words.specs.Lists.{any, is_empty}
 use Rattle.refusals.specs.declared.Refusal.TheVariants.{NoStrings, LengthsDiffer, NotAscii}
 use Rattle.refusals.specs.declared.Verdict.{Verdict}

@@ -1,6 +1,6 @@
 -- The consensus of strings of two strands, which end in /A and /B.
 use Rattle.std.specs.Prelude.{ℕ, ◌-◌, Bool, List, [], ◌∷◌, map, length, take, drop}
-use Rattle.words.specs.Choice.{if◌then◌else◌}
+use Rattle.std.specs.Prelude.{if◌then◌else◌}
 use Rattle.words.specs.Lists.{keep, is_empty, same_bytes}
 use Rattle.refusals.specs.Result.{Result, accepted, and_then}
 use Rattle.umi_groups.specs.Found.{Found}

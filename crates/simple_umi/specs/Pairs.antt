@@ -1,6 +1,6 @@
 -- As it is run; `pair_in` (simple_umi/proofs/Pairs) joins it to `duplex_of`: /A, and then /B with what /A gave.
 use Rattle.std.specs.Prelude.{◌≡◌, Bool, List, ℕ, ltb, length}
-use Rattle.words.specs.Choice.{if◌then◌else◌}
+use Rattle.std.specs.Prelude.{if◌then◌else◌}
 use Rattle.refusals.specs.declared.Refusal.TheVariants.{BufferTooShort}
 use Rattle.refusals.specs.Result.{Result, refused, accepted, and_then}
 use Rattle.umi_groups.specs.Found.{Found, buffer_after}

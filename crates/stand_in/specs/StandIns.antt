@@ -1,6 +1,6 @@
 -- What stands in for absent qualities, and what a quality is added as.
 use Rattle.std.specs.Prelude.{ℕ, Bool, true, false, eqb}
-use Rattle.words.specs.Choice.{if◌then◌else◌}
+use Rattle.std.specs.Prelude.{if◌then◌else◌}
 use Rattle.stand_in.specs.declared.StandIn.{StandIn}
 use Rattle.stand_in.specs.declared.StandIn.TheVariants.{NotGiven, Given}
 

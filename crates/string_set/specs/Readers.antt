@@ -1,6 +1,6 @@
 -- Reading off the front of a list of bytes. No position and no loop stands here.
 use Rattle.std.specs.Prelude.{ℕ, zero, suc, ◌+◌, ◌*◌, List, [], ◌∷◌, leb, ltb, length, take, drop}
-use Rattle.words.specs.Choice.{if◌then◌else◌}
+use Rattle.std.specs.Prelude.{if◌then◌else◌}
 use Rattle.refusals.specs.declared.Refusal.TheVariants.{FileTooLong, CutOff}
 use Rattle.refusals.specs.Result.{Result, refused, accepted}
 

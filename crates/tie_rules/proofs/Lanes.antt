@@ -9,7 +9,7 @@ use native.Mathlib.Omega.{arith}
 use borrow.Author.Tests.{eqb-true, eqb-false, not-true}
 use lib.Dec.{eqb}
 use lib.ListN.{get_or}
-use Rattle.words.specs.Choice.{if◌then◌else◌}
+use Rattle.std.specs.Prelude.{if◌then◌else◌}
 use Rattle.words.proofs.Cases.{both, and-false}
 use Rattle.tie_rules.specs.Lanes.{lanes, no_lane, lane_of_byte, is_base, lanes_after}
 use Rattle.words.specs.Claims.{all_below}

@@ -9,7 +9,7 @@ use lib.Dec.{ltb}
 use lib.Ieee.{Float, nan, inf, fin, lt, le, eq, neg, add, sub, div, is_nan, of_bits}
 use borrow.Author.Tests.{lt-ltb, ltb-true}
 use Rattle.float.specs.Ops.{◌⊖◌, epsilon}
-use Rattle.words.specs.Choice.{if◌then◌else◌}
+use Rattle.std.specs.Prelude.{if◌then◌else◌}
 use Rattle.float.specs.Methods.{abs_of}
 use Rattle.words.proofs.Cases.{test, clash, choice}
 use Rattle.float.proofs.Order.{lt_numbers, lt_trans, lt_not_eq}

@@ -1,7 +1,7 @@
 -- Four lanes, one for each of A, C, G and T, in this order.
 use Rattle.std.specs.Prelude.{ℕ, ◌-◌, ◌/◌, ◌%◌, Bool, not, ◌||◌, List, [], ◌∷◌, ltb, eqb, get_or, Float}
 use Rattle.std.specs.Float.{nan}
-use Rattle.words.specs.Choice.{if◌then◌else◌}
+use Rattle.std.specs.Prelude.{if◌then◌else◌}
 
 -- what f gives at the lanes 0 to 3
 unfoldable pub lanes : {A : Type 0} → (ℕ → A) → List A

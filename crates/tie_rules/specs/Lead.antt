@@ -2,7 +2,7 @@
 use Rattle.std.specs.Prelude.{ℕ, Float}
 use Rattle.std.specs.Float.Ieee.{lt, le}
 use Rattle.float.specs.Ops.{◌⊖◌, epsilon}
-use Rattle.words.specs.Choice.{if◌then◌else◌}
+use Rattle.std.specs.Prelude.{if◌then◌else◌}
 use Rattle.tie_rules.specs.declared.lead.Lead.{Lead}
 use Rattle.tie_rules.specs.Lanes.{no_lane}
 

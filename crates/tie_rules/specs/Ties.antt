@@ -5,7 +5,7 @@ use Rattle.std.specs.Float.{binary64}
 use Rattle.std.specs.Float.Ieee.{to_bits, lt, le, eq, is_nan}
 use Rattle.std.specs.Float.Ieee.Scale.{finite}
 use Rattle.float.specs.Ops.{◌⊖◌, plus_zero, epsilon}
-use Rattle.words.specs.Choice.{if◌then◌else◌}
+use Rattle.std.specs.Prelude.{if◌then◌else◌}
 use Rattle.float.specs.Methods.{abs_of}
 use Rattle.phred.specs.Phred.{ln_zero}
 use Rattle.tie_rules.specs.declared.tie_rule.Scan.{Scan}

@@ -1,6 +1,6 @@
 -- What the source answers as an Option: a lane, or none.
 use Rattle.std.specs.Prelude.{ℕ, ltb}
-use Rattle.words.specs.Choice.{if◌then◌else◌}
+use Rattle.std.specs.Prelude.{if◌then◌else◌}
 use Rattle.tie_rules.specs.declared.unique_max.UniqueMax.{UniqueMax}
 use Rattle.tie_rules.specs.declared.unique_max.UniqueMax.TheVariants.{Lane, NoLane}
 use Rattle.tie_rules.specs.Lanes.{no_lane}

@@ -6,7 +6,7 @@ use Prim.Native.Nat.{ℕ, min}
 use lib.Dec.{T, leb, eqb}
 use lib.Ieee.{nan}
 use lib.ListN.{get_or}
-use Rattle.words.specs.Choice.{if◌then◌else◌}
+use Rattle.std.specs.Prelude.{if◌then◌else◌}
 use Rattle.words.specs.Lists.{byte_at}
 use Rattle.rate_tables.specs.Adjusted.{adjusted_tables}
 use Rattle.gap_tables.specs.Gaps.{gap_tables}

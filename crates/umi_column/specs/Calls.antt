@@ -1,6 +1,6 @@
 -- The builder after a column, and the byte that the column gives.
 use Rattle.std.specs.Prelude.{ℕ, List, [], ◌∷◌, map, Float}
-use Rattle.words.specs.Choice.{if◌then◌else◌}
+use Rattle.std.specs.Prelude.{if◌then◌else◌}
 use Rattle.words.specs.Lists.{byte_at}
 use Rattle.rate_tables.specs.Adjusted.{adjusted_tables}
 use Rattle.gap_tables.specs.Gaps.{gap_tables}

@@ -1,6 +1,6 @@
 -- Which bytes count as DNA.
 use Rattle.std.specs.Prelude.{ℕ, ◌-◌, Bool, ◌&&◌, List, [], ◌∷◌, leb, eqb}
-use Rattle.words.specs.Choice.{if◌then◌else◌}
+use Rattle.std.specs.Prelude.{if◌then◌else◌}
 use Rattle.words.specs.Lists.{any}
 
 -- A, C, G, T and N: the source's DNA_BASES

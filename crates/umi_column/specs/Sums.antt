@@ -2,7 +2,7 @@
 use Rattle.std.specs.Prelude.{ℕ, ◌+◌, ◌-◌, List, [], ◌∷◌, Float, get_or, replicate}
 use Rattle.std.specs.Float.{nan}
 use Rattle.float.specs.Ops.{plus_zero}
-use Rattle.words.specs.Choice.{if◌then◌else◌}
+use Rattle.std.specs.Prelude.{if◌then◌else◌}
 use Rattle.tie_rules.specs.declared.tie_rule.TieRule.{TieRule}
 use Rattle.tie_rules.specs.Lanes.{lane_of_byte, is_base, base_of}
 use Rattle.tie_rules.specs.Ties.{unique_max_index_with}

@@ -1,6 +1,6 @@
 -- What is refused in a column.
 use Rattle.std.specs.Prelude.{ℕ, Bool, not, ◌&&◌, List, eqb}
-use Rattle.words.specs.Choice.{if◌then◌else◌}
+use Rattle.std.specs.Prelude.{if◌then◌else◌}
 use Rattle.words.specs.Lists.{any, byte_at}
 use Rattle.refusals.specs.declared.Refusal.TheVariants.{UnlikeFirst, Mixed}
 use Rattle.refusals.specs.declared.Verdict.{Verdict}

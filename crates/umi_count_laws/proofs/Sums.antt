@@ -8,7 +8,7 @@ use lib.ListN.{length, get_or}
 use lib.Ieee.{Float, nan, of_bits}
 use borrow.Author.Tests.{eqb-true, eqb-false, eq-eqb, ne_eqb}
 use Rattle.float.specs.Ops.{plus_zero}
-use Rattle.words.specs.Choice.{if◌then◌else◌}
+use Rattle.std.specs.Prelude.{if◌then◌else◌}
 use Rattle.words.proofs.Cases.{test}
 use Rattle.tie_rules.specs.Lanes.{lanes, no_lane, lane_of_byte, is_base}
 use Rattle.tie_rules.proofs.Lanes.{four, lanes_at, in_lane}

@@ -3,7 +3,7 @@
 use Rattle.std.specs.Prelude.{ℕ, suc, ◌<◌, Bool, ◌&&◌, List, [], ◌∷◌, ◌≢◌, eqb, Float}
 use Rattle.std.specs.Float.Ieee.{le, neg}
 use Rattle.float.specs.Ops.{◌⊖◌, bits, plus_zero, two}
-use Rattle.words.specs.Choice.{if◌then◌else◌}
+use Rattle.std.specs.Prelude.{if◌then◌else◌}
 use Rattle.tie_rules.specs.Lanes.{lane_of_byte}
 
 -- how many bytes stand for lane k

@@ -9,7 +9,7 @@ use borrow.Author.Count.{below_more}
 use lib.Dec.{T, eqb, eqb→eq}
 use lib.ListN.{length, take, drop, set, get_or-replicate, length-set, length-drop, replicate, drop_of_length-le}
 use lib.Seq.{get_or-set_same, get_or-set_other, get_or-take, get_or-drop, length-take-le}
-use Rattle.words.specs.Choice.{if◌then◌else◌}
+use Rattle.std.specs.Prelude.{if◌then◌else◌}
 use Rattle.words.specs.Claims.{every_from}
 use Rattle.words.proofs.Claims.{below}
 use Rattle.words.specs.Lists.{byte_at}

@@ -1,6 +1,6 @@
 -- As it is run; `named_by_counts` (umi_count_laws/proofs/Named) joins it to the lane that the rule names: how many of the strings have a base at each place.
 use Rattle.std.specs.Prelude.{◌≡◌, ◌||◌, List, ◌≢◌, ℕ, ◌+◌, ◌≤◌, ◌<◌, eqb, length, get_or}
-use Rattle.words.specs.Choice.{if◌then◌else◌}
+use Rattle.std.specs.Prelude.{if◌then◌else◌}
 use Rattle.words.specs.Lists.{byte_at}
 use Rattle.tie_rules.specs.Lanes.{lane_of_byte}
 use Rattle.umi_count_laws.specs.Counts.{times_observed}

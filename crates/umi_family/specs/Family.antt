@@ -1,6 +1,6 @@
 -- As it is run; `group_said` (simple_consensus/proofs/Groups) joins it to `consensus_of`: what a family's columns give.
 use Rattle.std.specs.Prelude.{false, List, map, ℕ, Float, length}
-use Rattle.words.specs.Choice.{if◌then◌else◌}
+use Rattle.std.specs.Prelude.{if◌then◌else◌}
 use Rattle.words.specs.Lists.{any, last_or, byte_at}
 use Rattle.tie_rules.specs.declared.tie_rule.TieRule.{TieRule}
 use Rattle.rate_tables.specs.declared.adjusted.AdjustedEntry.{AdjustedEntry}

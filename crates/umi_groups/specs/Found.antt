@@ -1,6 +1,6 @@
 -- What is found in strings, and what a function gives of it: the answer, the buffer and the builder afterwards.
 use Rattle.std.specs.Prelude.{ℕ, Bool, List, ltb, length}
-use Rattle.words.specs.Choice.{if◌then◌else◌}
+use Rattle.std.specs.Prelude.{if◌then◌else◌}
 use Rattle.lent_bytes.specs.Buffer.{written}
 use Rattle.refusals.specs.declared.Refusal.TheVariants.{BufferTooShort}
 use Rattle.refusals.specs.Result.{Result, refused, accepted}

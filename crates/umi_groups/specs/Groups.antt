@@ -1,7 +1,7 @@
 -- As it is run; `group_said` (simple_consensus/proofs/Groups) joins it to `consensus_of`: strings by the places of their length bytes in a set, without their last `trim` bytes.
 use Rattle.std.specs.Prelude.{Bool, false, not, ◌&&◌, List, [], ℕ, min, ◌+◌, ◌-◌, ltb, eqb, length, take, drop, get_or}
 use Rattle.std.specs.Float.{nan}
-use Rattle.words.specs.Choice.{if◌then◌else◌}
+use Rattle.std.specs.Prelude.{if◌then◌else◌}
 use Rattle.words.specs.Lists.{any, every, byte_at, is_empty}
 use Rattle.refusals.specs.declared.Refusal.TheVariants.{CutOff}
 use Rattle.refusals.specs.Result.{Result, refused, accepted, judged}

@@ -1,6 +1,6 @@
 -- As it is run; `verdict_same` (simple_consensus/proofs/Groups) joins it to `family_verdict`: what a family is refused for.
 use Rattle.std.specs.Prelude.{List, ℕ}
-use Rattle.words.specs.Choice.{if◌then◌else◌}
+use Rattle.std.specs.Prelude.{if◌then◌else◌}
 use Rattle.words.specs.Lists.{any}
 use Rattle.refusals.specs.declared.Refusal.TheVariants.{CutOff, NotAscii}
 use Rattle.refusals.specs.declared.Verdict.{Verdict}

@@ -1,7 +1,7 @@
 -- A test is true or false, and what follows from that. Assumes nothing.
 use mathlib.Core.Path.{◌≡◌, refl, sym, ◌∙◌}
 use mathlib.Core.Bool.{Bool, true, false, ◌&&◌, ◌||◌, false≢true}
-use Rattle.words.specs.Choice.{if◌then◌else◌}
+use Rattle.std.specs.Prelude.{if◌then◌else◌}
 
 -- whatever follows either way
 pub test : (b : Bool) {A : Type 0} → (b ≡ true → A) → (b ≡ false → A) → A

@@ -1,3 +1,2 @@
-pub mod Choice
 pub mod Claims
 pub mod Lists

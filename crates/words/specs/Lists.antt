@@ -1,6 +1,6 @@
 -- The words of our definitions on lists.
 use Rattle.std.specs.Prelude.{ℕ, zero, suc, ◌+◌, Bool, true, false, ◌&&◌, ◌||◌, List, [], ◌∷◌, eqb, get_or}
-use Rattle.words.specs.Choice.{if◌then◌else◌}
+use Rattle.std.specs.Prelude.{if◌then◌else◌}
 
 -- the test passes at one of them
 abbrev pub any : {A : Type 0} → (A → Bool) → List A → Bool

@@ -1,7 +1,7 @@
 -- `max`: each way through the code is a way of the definition. Assumes nothing.
 use Rattle.std.proofs.Common.{◌≡◌, Bool, true, false, sym, refl, ◌∙◌}
 use lib.Ieee.{Float, is_nan}
-use Rattle.words.specs.Choice.{if◌then◌else◌}
+use Rattle.std.specs.Prelude.{if◌then◌else◌}
 use Rattle.float.specs.Methods.{max_of}
 use Rattle.float.proofs.Order.{ne_self, lt_numbers}
 use Rattle.float.proofs.max.Goals as goal

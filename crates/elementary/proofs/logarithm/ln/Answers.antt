@@ -2,7 +2,7 @@ use mathlib.Core.Path.{◌≡◌, refl}
 use mathlib.Core.Bool.{true, false}
 use lib.Ieee.{Float, lt, le, eq, neg, is_nan, of_bits}
 use Rattle.float.specs.Ops.{◌⊗◌, ◌⊘◌, bits, plus_zero, one}
-use Rattle.words.specs.Choice.{if◌then◌else◌}
+use Rattle.std.specs.Prelude.{if◌then◌else◌}
 use Rattle.words.proofs.Cases.{and-false}
 use Rattle.float.proofs.Order.{lt_numbers, le_numbers, lt_trans, lt-le, lt_not_le, not_lt_le}
 use Rattle.elementary.specs.Ln.{normal_of, ln_of}

@@ -7,7 +7,7 @@ use borrow.Author.Tests.{le-ltb}
 use lib.Dec.{ltb}
 use lib.ListN.{get_or}
 use lib.Seq.{sets}
-use Rattle.words.specs.Choice.{if◌then◌else◌}
+use Rattle.std.specs.Prelude.{if◌then◌else◌}
 use Rattle.unanimous_shortcut.specs.Unanimous.{tables_of}
 use Rattle.export_reports.specs.Bytes.{Put}
 use Rattle.rate_tables.specs.Adjusted.{adjusted_of}

@@ -5,7 +5,7 @@ use Prim.Native.Nat.{◌≤◌}
 use native.Mathlib.Omega.{arith}
 use lib.Dec.{eqb}
 use mir.Val.{bool_byte}
-use Rattle.words.specs.Choice.{if◌then◌else◌}
+use Rattle.std.specs.Prelude.{if◌then◌else◌}
 use Rattle.umi_family.proofs.counts.hit.Goals as goal
 
 number : (b : Bool) → (bool_byte b ≡ (if b then 1 else 0)) × (bool_byte b ≤ 1)

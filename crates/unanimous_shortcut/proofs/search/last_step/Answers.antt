@@ -6,7 +6,7 @@ use native.Mathlib.Omega.{arith}
 use lib.Dec.{ltb}
 use lib.Ieee.{Float, le}
 use borrow.Author.Tests.{ltb-true, ltb-false, le-leb}
-use Rattle.words.specs.Choice.{if◌then◌else◌}
+use Rattle.std.specs.Prelude.{if◌then◌else◌}
 use Rattle.words.proofs.Cases.{test}
 use Rattle.unanimous_shortcut.specs.Search.{entry, advanced}
 use Rattle.unanimous_shortcut.proofs.search.last_step.Goals as goal
