@@ -1,5 +1,6 @@
 // The error sums of a column file, printed into a buffer: a line for each column.
 #![tactic(auto)]
+
 mod stream;
 mod sums;
 

@@ -1,6 +1,7 @@
 // A column file: settings, columns and a string set, each after its count. Reading one, and its parts
 // alone.
 #![tactic(auto)]
+
 mod columns;
 mod file;
 mod settings;

@@ -1,6 +1,7 @@
 // A column file written by parts: the settings with the announced number of columns, one column after
 // another, the string set, and a finish.
 #![tactic(auto)]
+
 mod stages;
 mod writer;
 

@@ -1,6 +1,7 @@
 // The tables of the elementary functions. A crate of its own, since 128 rows are slow to check and
 // never change.
 #![tactic(auto)]
+
 mod exp_table;
 mod ln_table;
 

@@ -1,6 +1,7 @@
 // The expected errors of a read: a table of error probabilities by quality, and sums over a column's
 // qualities.
 #![tactic(auto)]
+
 mod sums;
 mod table;
 

@@ -1,6 +1,7 @@
 // The listing of a file, or its records, with one number as the reply: what C or Rust asks for where the
 // text of a refusal is not wanted.
 #![tactic(auto)]
+
 ghost use Rattle.std.specs.Prelude.{◌≡◌};
 ghost use Rattle.column_listing.specs.Answers.{listed_in, listing_buffer};
 ghost use Rattle.column_records.specs.Records.{records_in};

@@ -1,6 +1,7 @@
 // What a builder of 80 given bytes has counted, by its three public functions that say so: what a driver
 // in C or Rust compares.
 #![tactic(auto)]
+
 ghost use Rattle.std.specs.Prelude.{◌≡◌, ◌<◌, length, get_or};
 ghost use Rattle.lent_bytes.specs.Buffer.{length_written, written};
 ghost use Rattle.lent_bytes.specs.Bytes.{joined, four_bytes};

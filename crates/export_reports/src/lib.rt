@@ -1,6 +1,7 @@
 // The reports that a list of a builder's calls in bytes asks for: what a driver in C or Rust hands over
 // and gets back.
 #![tactic(auto)]
+
 mod bytes;
 mod report;
 mod runs;

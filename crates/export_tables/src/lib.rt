@@ -1,5 +1,6 @@
 // The tables of a pair of rates, as bytes.
 #![tactic(auto)]
+
 ghost use Rattle.std.specs.Prelude.{◌≡◌, ◌≤◌, ◌<◌, length};
 ghost use Rattle.lent_bytes.specs.Buffer.{length_written, written};
 ghost use Rattle.export_tables.specs.Tables.{table_number, byte_in_number, number_byte, table_bytes, overwritten};

@@ -1,6 +1,7 @@
 // The ways in which a script's calls can be run. They give the same, and are here to be compared: where
 // they copy tables at each call, they do so because the functions that they run take them by value.
 #![tactic(auto)]
+
 mod calls;
 mod items;
 

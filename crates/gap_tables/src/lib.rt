@@ -1,6 +1,7 @@
 // The tables of a pre-UMI rate, from the first half of base_builder.rs: from which gap on a unanimous
 // position has which quality.
 #![tactic(auto)]
+
 mod gaps;
 mod thresholds;
 

@@ -1,5 +1,6 @@
 // A column file judged whole, its strings included: what every output of a file begins with.
 #![tactic(auto)]
+
 ghost use Rattle.std.specs.Prelude.{◌≡◌, ◌≤◌};
 ghost use Rattle.refusals.specs.Refusals.{number_in};
 ghost use Rattle.column_file.specs.Reading.{read_file};

@@ -1,6 +1,7 @@
 // A call from the four lanes of a position, the last part of base_builder.rs: the shortcut that estimates
 // the quality, and the long calculation, which works it out.
 #![tactic(auto)]
+
 mod call;
 mod full;
 mod lanes;

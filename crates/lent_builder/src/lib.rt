@@ -1,6 +1,7 @@
 // The builder borrowed by &mut: three thin functions over the by-value ones of base_builder. Above each
 // stands one that takes and gives the builder by value, so that its callers need no proof by hand.
 #![tactic(auto)]
+
 ghost use Rattle.std.specs.Prelude.{◌≡◌};
 ghost use Rattle.base_builder.specs.Builder.{with_tie_rule, reset_of, added, add_answer, add_number, refusal_of};
 

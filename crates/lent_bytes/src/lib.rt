@@ -1,5 +1,6 @@
 // Bytes compared, numbers read from bytes, and bytes put into a borrowed buffer.
 #![tactic(auto)]
+
 ghost use Rattle.std.specs.Prelude.{◌≡◌, ◌++◌, ◌+◌, ◌≤◌, ◌<◌, leb, length};
 ghost use Rattle.std.proofs.lemmas.List.Edits.{sets};
 ghost use Rattle.words.specs.Lists.{byte_at, same_bytes};

@@ -1,6 +1,7 @@
 // Text and numbers printed into a borrowed buffer from a place on. Each function gives the next place. What lies past
 // the buffer's end is counted and not written, so that one function both measures and writes.
 #![tactic(auto)]
+
 ghost use Rattle.std.specs.Prelude.{[], ◌∷◌};
 ghost use Rattle.lent_bytes.specs.Bytes.{four_bytes};
 ghost use Rattle.lent_text.specs.Text.{decimal};

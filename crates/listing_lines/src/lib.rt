@@ -1,5 +1,6 @@
 // The lines of a listing, printed into a buffer from a place on.
 #![tactic(auto)]
+
 ghost use Rattle.std.specs.Prelude.{◌≡◌, ◌∷◌, ◌++◌};
 ghost use Rattle.unanimous_shortcut.specs.Unanimous.{tables_of};
 ghost use Rattle.tie_rules.specs.Lanes.{counted};

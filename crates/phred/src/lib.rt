@@ -2,6 +2,7 @@
 // The equations (7) and (10) that it names are those of the note "Accurately computing
 // log(1 - exp(-|a|))" by Mächler.
 #![tactic(auto)]
+
 ghost use Rattle.std.specs.Prelude.{◌≡◌, ◌<◌, length};
 ghost use Rattle.phred.specs.Phred.{phred_to_ln_error_prob, phred_to_ln_correct_prob, clamped, ln_prob_to_phred, log1pexp_of, ln_one_minus_exp, ln_a_minus_b, two_trials, ln_error_prob_two_trials, ln_sum_exp, all_ln_zero, lower_of, start_lane, ln_sum_exp_fold, ln_sum_exp_from, ln_sum_exp_array, ln_normalize, ln_not};
 

@@ -1,5 +1,6 @@
 // What is printed of a refused input, whichever the program: its number, on a line of its own.
 #![tactic(auto)]
+
 ghost use Rattle.std.specs.Prelude.{◌≡◌};
 ghost use Rattle.lent_bytes.specs.Buffer.{length_written, written};
 ghost use Rattle.lent_text.specs.Printed.{Printed};

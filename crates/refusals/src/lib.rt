@@ -1,6 +1,7 @@
 // All numbered conditions (SCOPE 7) under which something is refused: a column file or a part of one, a string set, a base, a step of
 // writing.
 #![tactic(auto)]
+
 ghost use Rattle.std.specs.Prelude.{◌≡◌};
 ghost use Rattle.refusals.specs.Refusals.{number_of, verdict_number, first_number};
 ghost use Rattle.refusals.specs.Result.{or_else};

@@ -1,6 +1,7 @@
 // The caller of simple_umi.rs that refuses strings of unequal lengths. A set is borrowed in its file form,
 // and the answer goes into a borrowed buffer.
 #![tactic(auto)]
+
 mod answers;
 mod caller;
 mod group;

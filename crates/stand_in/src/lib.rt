@@ -1,5 +1,6 @@
 // What stands in for a quality of 255, which SAM calls absent.
 #![tactic(auto)]
+
 ghost use Rattle.std.specs.Prelude.{◌≡◌};
 ghost use Rattle.stand_in.specs.StandIns.{absent_as};
 

@@ -1,6 +1,7 @@
 // The listing of a stream of any length, from the front of it that a room of fixed size holds, into a
 // room that holds every listing.
 #![tactic(auto)]
+
 ghost use Rattle.std.specs.Prelude.{◌≡◌, List, ℕ, ◌<◌, length, take};
 ghost use Rattle.lent_bytes.specs.Buffer.{length_written, written};
 ghost use Rattle.streams.specs.Streams.{FrontOf, onto};

@@ -1,5 +1,6 @@
 // A string set in its file form: a count byte, then each string after its length byte.
 #![tactic(auto)]
+
 ghost use Rattle.std.specs.Prelude.{◌≡◌, ◌≤◌, length, replicate};
 ghost use Rattle.refusals.specs.Refusals.{number_in};
 ghost use Rattle.string_set.specs.StringSet.{read_set};

@@ -1,5 +1,6 @@
 // The lanes of a position and the rules that name one of them, a part of base_builder.rs.
 #![tactic(auto)]
+
 mod lane;
 mod lead;
 mod tie_rule;

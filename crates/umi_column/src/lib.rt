@@ -1,5 +1,6 @@
 // One column of a family of UMI strings: the bytes that they have at one place.
 #![tactic(auto)]
+
 mod calls;
 mod dna;
 mod sums;

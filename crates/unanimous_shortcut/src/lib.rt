@@ -1,6 +1,7 @@
 // The shortcut of base_builder.rs where one base alone was observed: its quality is looked up in the
 // tables of the pre-UMI rate.
 #![tactic(auto)]
+
 mod search;
 mod unanimous;
 

@@ -1,6 +1,7 @@
 // Integers as wider ones, one function for each pair of widths. A cast in place asks at each use for a proof
 // that the number fits; a call does not.
 #![tactic(auto)]
+
 ghost use Rattle.std.specs.Prelude.{◌≡◌, ◌<◌};
 
 // A u8 as a usize: a byte as a number of the size of places.

@@ -14,14 +14,16 @@ unfolding exp_minus_one_of
 returns-then-between c =
     let t = sym c.between-2.ensures ∙ c.if-between.true in
     elim c.if-not-between.branch [
-      then-not-between+else-not-between-2 w ↦ clash (sym c.between.ensures ∙ w.if-not-between.true) t
-    | else-not-between w ↦ rw t (c.near_zero.ensures ∙ ap (near_zero_of c.args.x) (c.correction_at-a.ensures ∙ ap correction_of w.y-is)) ]
+      | then-not-between+else-not-between-2 w ↦ clash (sym c.between.ensures ∙ w.if-not-between.true) t
+      | else-not-between w ↦ rw t (c.near_zero.ensures ∙ ap (near_zero_of c.args.x) (c.correction_at-a.ensures ∙ ap correction_of w.y-is))
+    ]
 
 pub returns : goal.returns
 unfolding exp_minus_one_of
 returns c =
     let f = sym c.between-2.ensures ∙ c.if-between.false in
     elim c.if-not-between.branch [
-      then-not-between+else-not-between-2 w ↦
-        rw (f, ← w.between-then-not-between.ensures, w.if-not-between-2.false, ← w.c-is, ← w.y-is, ← c.correction_at-a.ensures) c.shifted.ensures
-    | else-not-between w ↦ clash f (sym c.between.ensures ∙ w.if-not-between.false) ]
+      | then-not-between+else-not-between-2 w ↦
+          rw (f, ← w.between-then-not-between.ensures, w.if-not-between-2.false, ← w.c-is, ← w.y-is, ← c.correction_at-a.ensures) c.shifted.ensures
+      | else-not-between w ↦ clash f (sym c.between.ensures ∙ w.if-not-between.false)
+    ]

@@ -38,8 +38,9 @@ pub returns : goal.returns
 unfolding near_of
 returns c =
     elim c.if-n-ge-LEAST_SUM.branch [
-      then-n-ge-LEAST_SUM+then-n-lt-END_OF_SUMS+else-y w ↦
-        simp (← c.exp_row-e.ensures, ← c.series-t.ensures, ← w.fma_small_product-y.ensures, le-leb _ _ w.if-n-ge-LEAST_SUM.true, lt-ltb _ _ w.if-n-lt-END_OF_SUMS.true, w.if-y.false) c.far.ensures
-    | then-n-ge-LEAST_SUM+else-n-lt-END_OF_SUMS w ↦
-        simp (← c.exp_row-e.ensures, ← c.series-t.ensures, le-leb _ _ w.if-n-ge-LEAST_SUM.true, le-ltb _ _ w.if-n-lt-END_OF_SUMS.false) c.far.ensures
-    | else-n-ge-LEAST_SUM w ↦ simp (← c.exp_row-e.ensures, ← c.series-t.ensures, lt-leb _ _ w.if-n-ge-LEAST_SUM.false) c.far.ensures ]
+      | then-n-ge-LEAST_SUM+then-n-lt-END_OF_SUMS+else-y w ↦
+          simp (← c.exp_row-e.ensures, ← c.series-t.ensures, ← w.fma_small_product-y.ensures, le-leb _ _ w.if-n-ge-LEAST_SUM.true, lt-ltb _ _ w.if-n-lt-END_OF_SUMS.true, w.if-y.false) c.far.ensures
+      | then-n-ge-LEAST_SUM+else-n-lt-END_OF_SUMS w ↦
+          simp (← c.exp_row-e.ensures, ← c.series-t.ensures, le-leb _ _ w.if-n-ge-LEAST_SUM.true, le-ltb _ _ w.if-n-lt-END_OF_SUMS.false) c.far.ensures
+      | else-n-ge-LEAST_SUM w ↦ simp (← c.exp_row-e.ensures, ← c.series-t.ensures, lt-leb _ _ w.if-n-ge-LEAST_SUM.false) c.far.ensures
+    ]

@@ -80,9 +80,10 @@ returns-then-x-4 c =
 pub returns-then-x-5 : goal.returns-then-x-5
 returns-then-x-5 c =
     let e : ln_of c.args.x ≡ edge_of c.args.x =
-      elim c.if-x.branch [
-        then-x+else-x-2 w ↦ below-normal _ w.if-x.true w.if-x-2.false
-      | else-x+else-x-3+else-x-4 w ↦ beyond-largest _ w.if-x-3.false w.if-x-4.false ] in
+    elim c.if-x.branch [
+      | then-x+else-x-2 w ↦ below-normal _ w.if-x.true w.if-x-2.false
+      | else-x+else-x-3+else-x-4 w ↦ beyond-largest _ w.if-x-3.false w.if-x-4.false
+    ] in
     rw (e, c.if-x-5.true)
 
 pub normal-requires-then-x-6 : goal.normal-requires-then-x-6
@@ -92,23 +93,26 @@ normal-requires-then-x-6 c = not_nan_mul _ _ tt (lt_numbers plus_zero _ c.if-x-6
 pub returns-then-x-6 : goal.returns-then-x-6
 returns-then-x-6 c =
     let e : ln_of c.args.x ≡ edge_of c.args.x =
-      elim c.if-x.branch [
-        then-x+else-x-2 w ↦ below-normal _ w.if-x.true w.if-x-2.false
-      | else-x+else-x-3+else-x-4 w ↦ beyond-largest _ w.if-x-3.false w.if-x-4.false ] in
+    elim c.if-x.branch [
+      | then-x+else-x-2 w ↦ below-normal _ w.if-x.true w.if-x-2.false
+      | else-x+else-x-3+else-x-4 w ↦ beyond-largest _ w.if-x-3.false w.if-x-4.false
+    ] in
     rw (e, c.if-x-5.false, c.if-x-6.true) c.normal-then-x-6.ensures
 
 pub returns-then-x-7 : goal.returns-then-x-7
 returns-then-x-7 c =
     let e : ln_of c.args.x ≡ edge_of c.args.x =
-      elim c.if-x.branch [
-        then-x+else-x-2 w ↦ below-normal _ w.if-x.true w.if-x-2.false
-      | else-x+else-x-3+else-x-4 w ↦ beyond-largest _ w.if-x-3.false w.if-x-4.false ] in
+    elim c.if-x.branch [
+      | then-x+else-x-2 w ↦ below-normal _ w.if-x.true w.if-x-2.false
+      | else-x+else-x-3+else-x-4 w ↦ beyond-largest _ w.if-x-3.false w.if-x-4.false
+    ] in
     rw (e, c.if-x-5.false, c.if-x-6.false, c.if-x-7.true)
 
 pub returns : goal.returns
 returns c =
     let e : ln_of c.args.x ≡ edge_of c.args.x =
-      elim c.if-x.branch [
-        then-x+else-x-2 w ↦ below-normal _ w.if-x.true w.if-x-2.false
-      | else-x+else-x-3+else-x-4 w ↦ beyond-largest _ w.if-x-3.false w.if-x-4.false ] in
+    elim c.if-x.branch [
+      | then-x+else-x-2 w ↦ below-normal _ w.if-x.true w.if-x-2.false
+      | else-x+else-x-3+else-x-4 w ↦ beyond-largest _ w.if-x-3.false w.if-x-4.false
+    ] in
     rw (e, c.if-x-5.false, c.if-x-6.false, c.if-x-7.false)

@@ -27,8 +27,7 @@ loop-left-preserved c =
     let s = c.args.state.now in
     let k : c.args.n - (c.loop-left.left - 1) ≡ c.args.n - c.loop-left.left + 1 = omega arith in
     let p : c.args.at + (c.loop-left.left - 1) + 1 ≡ c.args.at + c.loop-left.left = omega arith in
-    let m = number_more s (c.args.at + (c.loop-left.left - 1)) (c.args.n - c.loop-left.left) in
-    (
+    let m = number_more s (c.args.at + (c.loop-left.left - 1)) (c.args.n - c.loop-left.left) in (
       omega arith,
       rw k (omega (arith, m, ap (number_at s (c.args.n - c.loop-left.left)) p, c.loop-left.invariant.1, c.byte_at.ensures.value)),
       rw k (more_room c.loop-left.number c.byte_at.result (c.args.n - c.loop-left.left) c.loop-left.invariant.2 c.byte_at.ensures.upper_bound),

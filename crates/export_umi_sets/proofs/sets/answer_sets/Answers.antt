@@ -31,5 +31,8 @@ returns c =
     let o = c.args.out.now in
     let few : length o < 2 ^ 63 = omega (arith, c.well_formed.1.1.1.0.1) in
     let h : length all ≤ length o = omega (arith, size) in
-    let n : c.in-At.n ≡ length all = omega (arith, size) in record { reply = n ∙ fits_replied all o h; lent = at_written c.args.question c.args.caller _ _ c.put_sets-counted.result c.in-At.n c.in-At.is (sets_in c.args.sets.now) c.put_sets-counted.ensures
-          o _ _ c.put_sets.ensures h }
+    let n : c.in-At.n ≡ length all = omega (arith, size) in record {
+      reply = n ∙ fits_replied all o h;
+      lent = at_written c.args.question c.args.caller _ _ c.put_sets-counted.result c.in-At.n c.in-At.is (sets_in c.args.sets.now) c.put_sets-counted.ensures
+          o _ _ c.put_sets.ensures h;
+    }

@@ -17,5 +17,8 @@ slice_bounds-put_bytes-end-2 c =
 pub returns : goal.returns
 unfolding set_bytes
 returns c =
-    let front : take c.ask-asked.result.length c.ask-asked.new.text ≡ asked_text (asked_found c.args.question c.args.caller c.args.set.now room_for_string) = text_front room_for_string c.ask-asked.result.length _ (asked_found c.args.question c.args.caller c.args.set.now room_for_string) c.ask-asked.ensures.short (ap (λ (a : Asked). a.length) c.ask-asked.ensures.asked) c.ask-asked.ensures.lent in record { put = printed_as (print_then c.put_bytes-a.ensures (print_then c.put_bytes-b.ensures c.put_bytes-place.ensures))
-          (rw (c.number_bytes-code.ensures, c.builder_bytes-state.ensures, front, c.ask-asked.ensures.asked)); caller = ap (λ (a : Asked). a.caller) c.ask-asked.ensures.asked }
+    let front : take c.ask-asked.result.length c.ask-asked.new.text ≡ asked_text (asked_found c.args.question c.args.caller c.args.set.now room_for_string) = text_front room_for_string c.ask-asked.result.length _ (asked_found c.args.question c.args.caller c.args.set.now room_for_string) c.ask-asked.ensures.short (ap (λ (a : Asked). a.length) c.ask-asked.ensures.asked) c.ask-asked.ensures.lent in record {
+      put = printed_as (print_then c.put_bytes-a.ensures (print_then c.put_bytes-b.ensures c.put_bytes-place.ensures))
+          (rw (c.number_bytes-code.ensures, c.builder_bytes-state.ensures, front, c.ask-asked.ensures.asked));
+      caller = ap (λ (a : Asked). a.caller) c.ask-asked.ensures.asked;
+    }

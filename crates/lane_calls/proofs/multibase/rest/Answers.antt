@@ -14,14 +14,14 @@ loop-k-init c = (omega arith, refl)
 
 pub loop-k-preserved : goal.loop-k-preserved
 unfolding rest_below
-loop-k-preserved c =
-    (
-      omega arith,
-      rw (add-one c.loop-k.k, ← c.loop-k.invariant.1)
-          (elim c.if-k-i.branch [
-            then-k-i w ↦ rw (ne_eqb _ _ w.if-k-i.true, ← w.exp-r.ensures) w.r-is
-          | else-k-i w ↦ rw (eq-eqb _ _ w.if-k-i.false) w.r-is ]),
-    )
+loop-k-preserved c = (
+  omega arith,
+  rw (add-one c.loop-k.k, ← c.loop-k.invariant.1)
+      (elim c.if-k-i.branch [
+        | then-k-i w ↦ rw (ne_eqb _ _ w.if-k-i.true, ← w.exp-r.ensures) w.r-is
+        | else-k-i w ↦ rw (eq-eqb _ _ w.if-k-i.false) w.r-is
+      ]),
+)
 
 pub returns : goal.returns
 returns c = let k : c.loop-k.k ≡ 4 = omega arith in c.loop-k.invariant.1 ∙ ap (rest_below _ _ _) k

@@ -24,22 +24,23 @@ loop-i-preserved c =
     let rows = c.args.rows.now in
     let s = c.args.observations.now in
     elim c.if-is_base.branch [
-      then-is_base+else-left-eq0 w ↦
-    let n = not-true _ (sym c.is_base.ensures ∙ w.if-is_base.true) in
-    let k = lane_of_byte (get_or s c.loop-i.i 0) in
-    let start = w.lanes_after-start.ensures.base (sym c.is_base.ensures ∙ w.if-is_base.true) in
-    let lane : 3 - w.lanes_after-start.result ≡ k = omega (arith, start, in_lane (get_or s c.loop-i.i 0) n) in
-    let o : c.if-is_base.after ≡ window_observed rows (window_at (get_or s (c.loop-i.i + 1) 0) k) k c.loop-i.after =
-    w.after-is ∙ rw (← w.entry-q.ensures, ← start, ← lane) w.step-after.ensures in (
-      omega arith,
-      w.left-is ∙ room_less rows s c.loop-i.i c.loop-i.after c.loop-i.left c.loop-i.invariant.1 n w.if-left-eq0.false c.if-is_base.after o,
-      observed rows s c.loop-i.i c.loop-i.after c.loop-i.left c.loop-i.invariant.1 n w.if-left-eq0.false c.if-is_base.after o c.loop-i-test.true ∙ c.loop-i.invariant.2,
-    )
-    | else-is_base w ↦ (
-      omega arith,
-      rw (w.left-is, w.after-is) c.loop-i.invariant.1,
-      rw w.after-is (ignored rows s c.loop-i.i c.loop-i.after c.loop-i-test.true (not-false _ (sym c.is_base.ensures ∙ w.if-is_base.false)) ∙ c.loop-i.invariant.2),
-    ) ]
+      | then-is_base+else-left-eq0 w ↦
+          let n = not-true _ (sym c.is_base.ensures ∙ w.if-is_base.true) in
+          let k = lane_of_byte (get_or s c.loop-i.i 0) in
+          let start = w.lanes_after-start.ensures.base (sym c.is_base.ensures ∙ w.if-is_base.true) in
+          let lane : 3 - w.lanes_after-start.result ≡ k = omega (arith, start, in_lane (get_or s c.loop-i.i 0) n) in
+          let o : c.if-is_base.after ≡ window_observed rows (window_at (get_or s (c.loop-i.i + 1) 0) k) k c.loop-i.after =
+          w.after-is ∙ rw (← w.entry-q.ensures, ← start, ← lane) w.step-after.ensures in (
+            omega arith,
+            w.left-is ∙ room_less rows s c.loop-i.i c.loop-i.after c.loop-i.left c.loop-i.invariant.1 n w.if-left-eq0.false c.if-is_base.after o,
+            observed rows s c.loop-i.i c.loop-i.after c.loop-i.left c.loop-i.invariant.1 n w.if-left-eq0.false c.if-is_base.after o c.loop-i-test.true ∙ c.loop-i.invariant.2,
+          )
+      | else-is_base w ↦ (
+        omega arith,
+        rw (w.left-is, w.after-is) c.loop-i.invariant.1,
+        rw w.after-is (ignored rows s c.loop-i.i c.loop-i.after c.loop-i-test.true (not-false _ (sym c.is_base.ensures ∙ w.if-is_base.false)) ∙ c.loop-i.invariant.2),
+      )
+    ]
 
 pub returns : goal.returns
 returns c =

@@ -17,13 +17,17 @@ returns-then-not-alike c =
 pub returns : goal.returns
 returns c =
     let strings : List (List ℕ) = strings_at 0 c.args.set.now c.args.places.now in
-    let tested : alike strings ≡ c.alike.result = strings_alike 0 c.args.set.now c.args.places.now c.requires ∙ sym c.alike.ensures in record { group = rw (
-      umis_alike c.args.caller strings (tested ∙ c.if-not-alike.false),
-      ← group_said c.args.caller 0 c.args.set.now c.args.places.now c.requires,
-    ) c.group_consensus.ensures.group; lent = rw (
-      umis_alike c.args.caller strings (tested ∙ c.if-not-alike.false),
-      ← group_said c.args.caller 0 c.args.set.now c.args.places.now c.requires,
-    ) c.group_consensus.ensures.lent; few = rw (
-      umis_alike c.args.caller strings (tested ∙ c.if-not-alike.false),
-      ← group_said c.args.caller 0 c.args.set.now c.args.places.now c.requires,
-    ) c.group_consensus.ensures.few }
+    let tested : alike strings ≡ c.alike.result = strings_alike 0 c.args.set.now c.args.places.now c.requires ∙ sym c.alike.ensures in record {
+      group = rw (
+        umis_alike c.args.caller strings (tested ∙ c.if-not-alike.false),
+        ← group_said c.args.caller 0 c.args.set.now c.args.places.now c.requires,
+      ) c.group_consensus.ensures.group;
+      lent = rw (
+        umis_alike c.args.caller strings (tested ∙ c.if-not-alike.false),
+        ← group_said c.args.caller 0 c.args.set.now c.args.places.now c.requires,
+      ) c.group_consensus.ensures.lent;
+      few = rw (
+        umis_alike c.args.caller strings (tested ∙ c.if-not-alike.false),
+        ← group_said c.args.caller 0 c.args.set.now c.args.places.now c.requires,
+      ) c.group_consensus.ensures.few;
+    }

@@ -24,7 +24,7 @@ slice_bounds-text-end c =
     let count_of : ℕ = c.in-Given.n in
     let text_of : List ℕ = c.strand_consensus-a.new.text in
     let few : count_of ≤ 255 = let caller = (start_of c).args.caller in let n = group_few c.strand_consensus-a.result caller (consensus_of caller (strand_of 65 (strings (start_of c)))) c.strand_consensus-a.ensures.group _ _ c.in-Given.is in omega (arith, c.strand_consensus-a.ensures.few, n) in
-    let inside : count_of ≤ length text_of = let size : length text_of ≡ 255 = c.strand_consensus-a.auto.1.1.1.1.0 in omega (arith, few) in
+    let inside : count_of ≤ length text_of = let size : length text_of ≡ 255 = c.strand_consensus-a.auto.text in omega (arith, few) in
     inside
 
 pub slice_bounds-second_strand-end : goal.slice_bounds-second_strand-end
@@ -33,7 +33,7 @@ slice_bounds-second_strand-end c =
     let count_of : ℕ = c.in-Given.n in
     let text_of : List ℕ = c.strand_consensus-a.new.text in
     let few : count_of ≤ 255 = let caller = (start_of c).args.caller in let n = group_few c.strand_consensus-a.result caller (consensus_of caller (strand_of 65 (strings (start_of c)))) c.strand_consensus-a.ensures.group _ _ c.in-Given.is in omega (arith, c.strand_consensus-a.ensures.few, n) in
-    let inside : count_of ≤ length text_of = let size : length text_of ≡ 255 = c.strand_consensus-a.auto.1.1.1.1.0 in omega (arith, few) in
+    let inside : count_of ≤ length text_of = let size : length text_of ≡ 255 = c.strand_consensus-a.auto.text in omega (arith, few) in
     let text : length (take count_of text_of) ≡ count_of = length-take-le count_of text_of inside in
     sym text
 
@@ -43,7 +43,7 @@ second_strand-requires c =
     let count_of : ℕ = c.in-Given.n in
     let text_of : List ℕ = c.strand_consensus-a.new.text in
     let few : count_of ≤ 255 = let caller = (start_of c).args.caller in let n = group_few c.strand_consensus-a.result caller (consensus_of caller (strand_of 65 (strings (start_of c)))) c.strand_consensus-a.ensures.group _ _ c.in-Given.is in omega (arith, c.strand_consensus-a.ensures.few, n) in
-    let inside : count_of ≤ length text_of = let size : length text_of ≡ 255 = c.strand_consensus-a.auto.1.1.1.1.0 in omega (arith, few) in
+    let inside : count_of ≤ length text_of = let size : length text_of ≡ 255 = c.strand_consensus-a.auto.text in omega (arith, few) in
     let text : length (take count_of text_of) ≡ count_of = length-take-le count_of text_of inside in
     (omega (arith, few, text), (start_of c).requires)
 

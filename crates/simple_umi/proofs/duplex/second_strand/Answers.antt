@@ -22,7 +22,7 @@ slice_bounds-other-end c =
     let count_of : ℕ = c.in-Given.n in
     let text_of : List ℕ = c.strand_consensus-b.new.text in
     let few : count_of ≤ 255 = let caller = (start_of c).args.caller in let n = group_few c.strand_consensus-b.result caller (consensus_of caller (strand_of 66 (strings (start_of c)))) c.strand_consensus-b.ensures.group _ _ c.in-Given.is in omega (arith, c.strand_consensus-b.ensures.few, n) in
-    let inside : count_of ≤ length text_of = let size : length text_of ≡ 255 = c.strand_consensus-b.auto.1.1.1.1.0 in omega (arith, few) in
+    let inside : count_of ≤ length text_of = let size : length text_of ≡ 255 = c.strand_consensus-b.auto.text in omega (arith, few) in
     inside
 
 pub slice_bounds-put_either-end : goal.slice_bounds-put_either-end
@@ -31,7 +31,7 @@ slice_bounds-put_either-end c =
     let count_of : ℕ = c.in-Given.n in
     let text_of : List ℕ = c.strand_consensus-b.new.text in
     let few : count_of ≤ 255 = let caller = (start_of c).args.caller in let n = group_few c.strand_consensus-b.result caller (consensus_of caller (strand_of 66 (strings (start_of c)))) c.strand_consensus-b.ensures.group _ _ c.in-Given.is in omega (arith, c.strand_consensus-b.ensures.few, n) in
-    let inside : count_of ≤ length text_of = let size : length text_of ≡ 255 = c.strand_consensus-b.auto.1.1.1.1.0 in omega (arith, few) in
+    let inside : count_of ≤ length text_of = let size : length text_of ≡ 255 = c.strand_consensus-b.auto.text in omega (arith, few) in
     let text : length (take count_of text_of) ≡ count_of = length-take-le count_of text_of inside in
     sym text
 
@@ -47,7 +47,7 @@ returns-in-Given c =
     let count_of : ℕ = c.in-Given.n in
     let text_of : List ℕ = c.strand_consensus-b.new.text in
     let few : count_of ≤ 255 = let caller = (start_of c).args.caller in let n = group_few c.strand_consensus-b.result caller (consensus_of caller (strand_of 66 (strings (start_of c)))) c.strand_consensus-b.ensures.group _ _ c.in-Given.is in omega (arith, c.strand_consensus-b.ensures.few, n) in
-    let inside : count_of ≤ length text_of = let size : length text_of ≡ 255 = c.strand_consensus-b.auto.1.1.1.1.0 in omega (arith, few) in
+    let inside : count_of ≤ length text_of = let size : length text_of ≡ 255 = c.strand_consensus-b.auto.text in omega (arith, few) in
     let text : length (take count_of text_of) ≡ count_of = length-take-le count_of text_of inside in
     let start = start_of c in
     let a = start.args in

@@ -9,11 +9,10 @@ pub loop-i-init : goal.loop-i-init
 loop-i-init c = (omega arith, refl)
 
 pub loop-i-preserved : goal.loop-i-preserved
-loop-i-preserved c =
-    (
-      omega arith,
-      added_more c.args.correct c.args.error_per_alt c.args.column.now c.loop-i.i c.loop-i.after _ (omega arith) c.add_entry-addition.ensures.builder ∙ c.loop-i.invariant.1,
-    )
+loop-i-preserved c = (
+  omega arith,
+  added_more c.args.correct c.args.error_per_alt c.args.column.now c.loop-i.i c.loop-i.after _ (omega arith) c.add_entry-addition.ensures.builder ∙ c.loop-i.invariant.1,
+)
 
 pub returns : goal.returns
 returns c =

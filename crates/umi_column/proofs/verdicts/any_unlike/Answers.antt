@@ -38,8 +38,9 @@ loop-i-preserved c =
     let x = byte_at c.args.column.now c.loop-i.i in
     let like : is_unlike c.args.first x ≡ false =
     elim c.if-b-first.branch [
-      then-b-first+else-not-is_dna_base w ↦ dna c.args.first x (sym w.is_dna_base.ensures ∙ w.if-not-is_dna_base.false)
-    | else-b-first w ↦ same c.args.first x w.if-b-first.false ] in
+      | then-b-first+else-not-is_dna_base w ↦ dna c.args.first x (sym w.is_dna_base.ensures ∙ w.if-not-is_dna_base.false)
+      | else-b-first w ↦ same c.args.first x w.if-b-first.false
+    ] in
     (omega arith, any-more (is_unlike c.args.first) c.args.column.now 0 c.loop-i.i (omega arith) like ∙ c.loop-i.invariant.1)
 
 pub returns : goal.returns

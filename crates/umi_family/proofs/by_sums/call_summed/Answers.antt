@@ -13,12 +13,11 @@ summed_byte-requires c =
     fits_less (c.loop-at.at + 1) (length c.args.text.now) c.args.set.now c.args.places.now (omega arith) c.requires
 
 pub loop-at-preserved : goal.loop-at-preserved
-loop-at-preserved c =
-    (
-      simp length-set c.loop-at.invariant.0,
-      omega arith,
-      column-more (length c.args.text.now) c.args.set.now c.args.places.now c.args.window.now c.args.rule c.loop-at.text c.loop-at.at _ c.loop-at.invariant.0 (omega arith) c.summed_byte.ensures c.loop-at.invariant.2,
-    )
+loop-at-preserved c = (
+  simp length-set c.loop-at.invariant.0,
+  omega arith,
+  column-more (length c.args.text.now) c.args.set.now c.args.places.now c.args.window.now c.args.rule c.loop-at.text c.loop-at.at _ c.loop-at.invariant.0 (omega arith) c.summed_byte.ensures c.loop-at.invariant.2,
+)
 
 pub returns : goal.returns
 returns c =

@@ -20,13 +20,13 @@ call_columns-after-requires c =
 pub any_differs-had_errors-requires : goal.any_differs-had_errors-requires
 any_differs-had_errors-requires c =
     let within : (fitting (length c.args.text.now) c.args.set.now c.args.places.now ≡ true) × RowsFit (length c.args.text.now) c.args.set.now c.args.places.now = let e : fitting (length c.args.text.now) c.args.set.now c.args.places.now ≡ true = sym c.fit.ensures ∙ c.if-not-fit.false in (e, fits (length c.args.text.now) c.args.set.now c.args.places.now e) in
-    let size : length c.call_columns-after.new.text ≡ length c.args.text.now = c.call_columns-after.auto.1.1.1.1.0 in
+    let size : length c.call_columns-after.new.text ≡ length c.args.text.now = c.call_columns-after.auto.text in
     rw size within.1
 
 pub returns : goal.returns
 unfolding called_at text_at
 returns c =
     let within : (fitting (length c.args.text.now) c.args.set.now c.args.places.now ≡ true) × RowsFit (length c.args.text.now) c.args.set.now c.args.places.now = let e : fitting (length c.args.text.now) c.args.set.now c.args.places.now ≡ true = sym c.fit.ensures ∙ c.if-not-fit.false in (e, fits (length c.args.text.now) c.args.set.now c.args.places.now e) in
-    let size : length c.call_columns-after.new.text ≡ length c.args.text.now = c.call_columns-after.auto.1.1.1.1.0 in
+    let size : length c.call_columns-after.new.text ≡ length c.args.text.now = c.call_columns-after.auto.text in
     let e = within.0 in
     let errors = rw (size, c.call_columns-after.ensures.text) at c.any_differs-had_errors.ensures in record { called = rw (e, errors, c.call_columns-after.ensures.builder); text = rw e c.call_columns-after.ensures.text }

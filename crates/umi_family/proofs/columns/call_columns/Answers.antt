@@ -20,7 +20,7 @@ pub returns : goal.returns
 returns c =
     let w = length c.args.text.now in
     let told = gathered c.args.set.now c.args.places.now (w - 1) c.gather-column.result c.requires.1 c.gather-column.ensures in
-    let size : length c.call_others.new.text ≡ w = c.call_others.auto.1.1.1.1.1.0 in
+    let size : length c.call_others.new.text ≡ w = c.call_others.auto.text in
     let added : c.add_column-after.result ≡ builder_by c.args.entry c.args.builder (bytes_at (w - 1) c.args.set.now c.args.places.now) = rw (told, c.reset.ensures) at c.add_column-after.ensures in
     let first = gathered_first c.args.set.now c.args.places.now (w - 1) c.gather-column.result told c.requires.0 in let said = last_column c.args.entry c.args.builder c.args.set.now c.args.places.now w (omega (arith, c.if-text-eq0.false)) c.requires.1 c.call_others.new.text size c.call_others.ensures c.add_column-after.result added c.consensus_byte.result
     (rw first at c.consensus_byte.ensures) in record { text = said.0; builder = said.1 }

@@ -41,8 +41,7 @@ loop-k-preserved c =
     let h : c.loop-k.k < length ps = omega arith in
     let from = byte_at ps c.loop-k.k + 1 in
     let same = row_lent s from w in
-    let size = row_size s from w (c.requires.1.2 c.loop-k.k h) in
-    (
+    let size = row_size s from w (c.requires.1.2 c.loop-k.k h) in (
       omega arith,
       done_more 0 w s ps c.loop-k.k c.loop-k.a c.loop-k.invariant.1 h _ same size c.count_row.new.a c.count_row.ensures.a,
       done_more 1 w s ps c.loop-k.k c.loop-k.c c.loop-k.invariant.2 h _ same size c.count_row.new.c c.count_row.ensures.c,

@@ -25,12 +25,11 @@ led_byte-requires c =
     )
 
 pub loop-at-preserved : goal.loop-at-preserved
-loop-at-preserved c =
-    (
-      simp length-set c.loop-at.invariant.0,
-      omega arith,
-      column-more (length c.args.text.now) c.args.set.now c.args.places.now c.args.window.now FgbioCompat c.loop-at.text c.loop-at.at _ c.loop-at.invariant.0 (omega arith) c.led_byte.ensures c.loop-at.invariant.2,
-    )
+loop-at-preserved c = (
+  simp length-set c.loop-at.invariant.0,
+  omega arith,
+  column-more (length c.args.text.now) c.args.set.now c.args.places.now c.args.window.now FgbioCompat c.loop-at.text c.loop-at.at _ c.loop-at.invariant.0 (omega arith) c.led_byte.ensures c.loop-at.invariant.2,
+)
 
 pub shape_of-text : goal.shape_of-text
 shape_of-text c = c.loop-at.invariant.0

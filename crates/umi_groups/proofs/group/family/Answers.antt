@@ -7,18 +7,24 @@ use Rattle.umi_groups.proofs.Groups.{family_refused, family_short, family_given}
 use Rattle.umi_groups.proofs.group.family.Goals as goal
 
 pub returns-then-out-width : goal.returns-then-out-width
-returns-then-out-width c = record { group = rw (family_short (entry_at c.args.post.0 c.args.q.0) c.args.builder c.args.width c.args.set.now c.args.places.now c.args.out.now
-    (sym c.family_verdict.ensures.verdict ∙ c.in-Sound.is) c.if-out-width.true) c.refused_group-then-out-width.ensures; lent = rw (family_short (entry_at c.args.post.0 c.args.q.0) c.args.builder c.args.width c.args.set.now c.args.places.now c.args.out.now
-    (sym c.family_verdict.ensures.verdict ∙ c.in-Sound.is) c.if-out-width.true) refl }
+returns-then-out-width c = record {
+  group = rw (family_short (entry_at c.args.post.0 c.args.q.0) c.args.builder c.args.width c.args.set.now c.args.places.now c.args.out.now
+      (sym c.family_verdict.ensures.verdict ∙ c.in-Sound.is) c.if-out-width.true) c.refused_group-then-out-width.ensures;
+  lent = rw (family_short (entry_at c.args.post.0 c.args.q.0) c.args.builder c.args.width c.args.set.now c.args.places.now c.args.out.now
+      (sym c.family_verdict.ensures.verdict ∙ c.in-Sound.is) c.if-out-width.true) refl;
+}
 
 pub slice_bounds-call_family-end-in-Sound : goal.slice_bounds-call_family-end-in-Sound
 slice_bounds-call_family-end-in-Sound c =
     sym (length-take-le c.args.width c.args.out.now c.if-out-width.false)
 
 pub returns-in-Refused : goal.returns-in-Refused
-returns-in-Refused c = record { group = rw (family_refused (entry_at c.args.post.0 c.args.q.0) c.args.builder c.args.width c.args.set.now c.args.places.now c.args.out.now _
-    (sym c.family_verdict.ensures.verdict ∙ c.in-Refused.is)) c.refused_group.ensures; lent = rw (family_refused (entry_at c.args.post.0 c.args.q.0) c.args.builder c.args.width c.args.set.now c.args.places.now c.args.out.now _
-    (sym c.family_verdict.ensures.verdict ∙ c.in-Refused.is)) refl }
+returns-in-Refused c = record {
+  group = rw (family_refused (entry_at c.args.post.0 c.args.q.0) c.args.builder c.args.width c.args.set.now c.args.places.now c.args.out.now _
+      (sym c.family_verdict.ensures.verdict ∙ c.in-Refused.is)) c.refused_group.ensures;
+  lent = rw (family_refused (entry_at c.args.post.0 c.args.q.0) c.args.builder c.args.width c.args.set.now c.args.places.now c.args.out.now _
+      (sym c.family_verdict.ensures.verdict ∙ c.in-Refused.is)) refl;
+}
 
 pub returns-else-out-width : goal.returns-else-out-width
 returns-else-out-width c =
