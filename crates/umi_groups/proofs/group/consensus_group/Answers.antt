@@ -10,10 +10,29 @@ use Rattle.umi_groups.proofs.group.consensus_group.Goals as goal
 
 pub returns-then-places-eq0 : goal.returns-then-places-eq0
 returns-then-places-eq0 c =
-    let out = c.args.out.now in record { group = rw (group_none c.args.post.0 c.args.q.0 c.args.builder c.args.trim c.args.set.now c.args.places.now c.if-places-eq0.true, room_enough out (found_by [] false c.args.builder) (omega arith)) refl; lent = rw (group_none c.args.post.0 c.args.q.0 c.args.builder c.args.trim c.args.set.now c.args.places.now c.if-places-eq0.true, room_enough out (found_by [] false c.args.builder) (omega arith)) (none_written out); few = rw (group_none c.args.post.0 c.args.q.0 c.args.builder c.args.trim c.args.set.now c.args.places.now c.if-places-eq0.true, room_enough out (found_by [] false c.args.builder) (omega arith)) (omega arith) }
+    let a = c.args in
+    let none = group_none a.post.0 a.q.0 a.builder a.trim a.set.now a.places.now c.if-places-eq0.true in
+    let room = room_enough a.out.now (found_by [] false a.builder) (omega arith) in
+    record { group = rw (none, room) refl; lent = rw (none, room) (none_written a.out.now); few = rw none (omega arith) }
 
 pub returns-then-places-same : goal.returns-then-places-same
-returns-then-places-same c = record { group = rw (group_family c.args.post.0 c.args.q.0 c.args.builder c.args.trim c.args.set.now c.args.places.now (omega arith) (rw c.alike-same.ensures at c.if-places-same.true), ← c.width_at-width.ensures.width) c.family.ensures.group; lent = rw (group_family c.args.post.0 c.args.q.0 c.args.builder c.args.trim c.args.set.now c.args.places.now (omega arith) (rw c.alike-same.ensures at c.if-places-same.true), ← c.width_at-width.ensures.width) c.family.ensures.lent; few = rw (group_family c.args.post.0 c.args.q.0 c.args.builder c.args.trim c.args.set.now c.args.places.now (omega arith) (rw c.alike-same.ensures at c.if-places-same.true), ← c.width_at-width.ensures.width) (family_few c.args.builder c.width_at-width.result c.args.set.now c.args.places.now c.width_at-width.ensures.few _) }
+returns-then-places-same c =
+    let a = c.args in
+    let family = group_family a.post.0 a.q.0 a.builder a.trim a.set.now a.places.now (omega arith) (rw c.alike-same.ensures at c.if-places-same.true) in
+    let width = c.width_at-width.ensures.width in
+    record {
+      group = rw (family, ← width) c.family.ensures.group;
+      lent = rw (family, ← width) c.family.ensures.lent;
+      few = rw (family, ← width) (family_few a.builder c.width_at-width.result a.set.now a.places.now c.width_at-width.ensures.few _);
+    }
 
 pub returns : goal.returns
-returns c = record { group = rw (group_first c.args.post.0 c.args.q.0 c.args.builder c.args.trim c.args.set.now c.args.places.now (omega arith) (rw c.alike-same.ensures at c.if-places-same.false), ← c.width_at-width.ensures.width, ← c.alike-same.ensures) c.first.ensures.group; lent = rw (group_first c.args.post.0 c.args.q.0 c.args.builder c.args.trim c.args.set.now c.args.places.now (omega arith) (rw c.alike-same.ensures at c.if-places-same.false), ← c.width_at-width.ensures.width, ← c.alike-same.ensures) c.first.ensures.lent; few = rw (group_first c.args.post.0 c.args.q.0 c.args.builder c.args.trim c.args.set.now c.args.places.now (omega arith) (rw c.alike-same.ensures at c.if-places-same.false), ← c.width_at-width.ensures.width, ← c.alike-same.ensures) (first_few c.args.builder c.width_at-width.result c.args.set.now c.args.places.now c.width_at-width.ensures.few _) }
+returns c =
+    let a = c.args in
+    let first = group_first a.post.0 a.q.0 a.builder a.trim a.set.now a.places.now (omega arith) (rw c.alike-same.ensures at c.if-places-same.false) in
+    let width = c.width_at-width.ensures.width in
+    record {
+      group = rw (first, ← width, ← c.alike-same.ensures) c.first.ensures.group;
+      lent = rw (first, ← width, ← c.alike-same.ensures) c.first.ensures.lent;
+      few = rw (first, ← width, ← c.alike-same.ensures) (first_few a.builder c.width_at-width.result a.set.now a.places.now c.width_at-width.ensures.few _);
+    }

@@ -11,7 +11,7 @@ use Rattle.lent_bytes.proofs.Buffer.{short_written}
 use Rattle.umi_rows.specs.Rows.{fitting}
 use Rattle.umi_rows.proofs.RowLoops.{row_lent}
 use Rattle.umi_groups.specs.Found.{found_by}
-use Rattle.umi_groups.proofs.Groups.{first_inside, first_length, first_found, first_cut_off}
+use Rattle.umi_groups.proofs.Groups.{first_inside, first_length, first_found_lem, first_cut_off}
 use Rattle.umi_groups.proofs.Room.{room_short, room_enough}
 use Rattle.umi_groups.proofs.group.first.Goals as goal
 
@@ -48,7 +48,7 @@ returns-then-not-write_front c =
     let text = take c.args.width (drop from c.args.set.now) in
     let reply = rw (row_lent c.args.set.now from c.args.width) at c.write_front.ensures.reply in
     let lent = rw (row_lent c.args.set.now from c.args.width) at c.write_front.ensures.lent in
-    let short : length out < length text = leb-false _ _ (sym reply ∙ c.if-not-write_front.true) in record { group = rw (first_found c.args.builder c.args.had_errors c.args.width c.args.set.now c.args.places.now fits, room_short out (found_by text c.args.had_errors c.args.builder) short) c.refused_group-then-not-write_front.ensures; lent = rw (first_found c.args.builder c.args.had_errors c.args.width c.args.set.now c.args.places.now fits, room_short out (found_by text c.args.had_errors c.args.builder) short) (lent ∙ sym (short_written text out short)) }
+    let short : length out < length text = leb-false _ _ (sym reply ∙ c.if-not-write_front.true) in record { group = rw (first_found_lem c.args.builder c.args.had_errors c.args.width c.args.set.now c.args.places.now fits, room_short out (found_by text c.args.had_errors c.args.builder) short) c.refused_group-then-not-write_front.ensures; lent = rw (first_found_lem c.args.builder c.args.had_errors c.args.width c.args.set.now c.args.places.now fits, room_short out (found_by text c.args.had_errors c.args.builder) short) (lent ∙ sym (short_written text out short)) }
 
 pub returns : goal.returns
 returns c =
@@ -60,4 +60,4 @@ returns c =
     let text = take c.args.width (drop from c.args.set.now) in
     let reply = rw (row_lent c.args.set.now from c.args.width) at c.write_front.ensures.reply in
     let lent = rw (row_lent c.args.set.now from c.args.width) at c.write_front.ensures.lent in
-    let fit : length text ≤ length out = leb-true _ _ (sym reply ∙ c.if-not-write_front.false) in record { group = rw (first_found c.args.builder c.args.had_errors c.args.width c.args.set.now c.args.places.now fits, room_enough out (found_by text c.args.had_errors c.args.builder) fit) (rw size refl); lent = rw (first_found c.args.builder c.args.had_errors c.args.width c.args.set.now c.args.places.now fits, room_enough out (found_by text c.args.had_errors c.args.builder) fit) lent }
+    let fit : length text ≤ length out = leb-true _ _ (sym reply ∙ c.if-not-write_front.false) in record { group = rw (first_found_lem c.args.builder c.args.had_errors c.args.width c.args.set.now c.args.places.now fits, room_enough out (found_by text c.args.had_errors c.args.builder) fit) (rw size refl); lent = rw (first_found_lem c.args.builder c.args.had_errors c.args.width c.args.set.now c.args.places.now fits, room_enough out (found_by text c.args.had_errors c.args.builder) fit) lent }
