@@ -32,8 +32,8 @@ answers_to q c short = []
 answers_to q c (taken l r) = sets_bytes q c l
 
 -- by a new caller of two rates and a quality: 0 call_consensus, 1 consensus, 3 consensus_duplex; nothing for another number
-unfoldable pub umiSetsBytes : ℕ → ℕ → ℕ → ℕ → List ℕ → List ℕ
-umiSetsBytes pre post quality which sets =
+unfoldable pub umi_sets_bytes : ℕ → ℕ → ℕ → ℕ → List ℕ → List ℕ
+umi_sets_bytes pre post quality which sets =
     if eqb which 0 then answers_to CallConsensus (caller_at pre post quality) (sets_in sets)
     else if eqb which 1 then answers_to Consensus (caller_at pre post quality) (sets_in sets)
     else if eqb which 3 then answers_to ConsensusDuplex (caller_at pre post quality) (sets_in sets)

@@ -20,36 +20,36 @@ use Rattle.elementary.specs.ExpMinusOne.{exp_minus_one_of}
 use Rattle.phred.specs.Phred.{phred_to_ln_error_prob, phred_to_ln_correct_prob, ln_prob_to_phred, log1pexp_of, ln_one_minus_exp, ln_a_minus_b, ln_error_prob_two_trials, ln_sum_exp, ln_sum_exp_array, ln_normalize, ln_not}
 
 -- a function's value at a level
-abbrev pub atLevel : LevelFunction → ℕ → Float
-atLevel PhredToLnErrorProb n = phred_to_ln_error_prob n
-atLevel PhredToLnCorrectProb n = phred_to_ln_correct_prob n
+abbrev pub at_level : LevelFunction → ℕ → Float
+at_level PhredToLnErrorProb n = phred_to_ln_error_prob n
+at_level PhredToLnCorrectProb n = phred_to_ln_correct_prob n
 
 -- at a number
-abbrev pub atNumber : NumberFunction → Float → Float
-atNumber Exp x = exp_of x
-atNumber Ln x = ln_of x
-atNumber LnOnePlus x = ln_one_plus_of x
-atNumber ExpMinusOne x = exp_minus_one_of x
-atNumber LogOnePlusExp x = log1pexp_of x
-atNumber LnOneMinusExp x = ln_one_minus_exp x
-atNumber LnNot x = ln_not x
+abbrev pub at_number : NumberFunction → Float → Float
+at_number Exp x = exp_of x
+at_number Ln x = ln_of x
+at_number LnOnePlus x = ln_one_plus_of x
+at_number ExpMinusOne x = exp_minus_one_of x
+at_number LogOnePlusExp x = log1pexp_of x
+at_number LnOneMinusExp x = ln_one_minus_exp x
+at_number LnNot x = ln_not x
 
 -- at two numbers
-abbrev pub atPair : PairFunction → Float → Float → Float
-atPair LnAMinusB x y = ln_a_minus_b x y
-atPair LnErrorProbTwoTrials x y = ln_error_prob_two_trials x y
-atPair LnSumExp x y = ln_sum_exp x y
-atPair LnNormalize x y = ln_normalize x y
+abbrev pub at_pair : PairFunction → Float → Float → Float
+at_pair LnAMinusB x y = ln_a_minus_b x y
+at_pair LnErrorProbTwoTrials x y = ln_error_prob_two_trials x y
+at_pair LnSumExp x y = ln_sum_exp x y
+at_pair LnNormalize x y = ln_normalize x y
 
 -- the bit pattern of x: 0x7ff8_0000_0000_0000 for a NaN, as the list has it
-abbrev pub bitPattern : Float → MaybeNumber
-bitPattern x = Number (to_bits binary64 x)
+abbrev pub bit_pattern : Float → MaybeNumber
+bit_pattern x = Number (to_bits binary64 x)
 
 -- that of a function's value at a level, which has 8 bits
-abbrev pub levelAnswer : LevelFunction → ℕ → MaybeNumber
-levelAnswer f n =
+abbrev pub level_answer : LevelFunction → ℕ → MaybeNumber
+level_answer f n =
     if nat_lt 255 n then NoNumber
-    else bitPattern (atLevel f n)
+    else bit_pattern (at_level f n)
 
 -- number k of a line, as an f64
 abbrev pub real_at : List ℕ → ℕ → Float
@@ -57,8 +57,8 @@ real_at ns k = bits (slice_index ns k)
 
 -- what the function gives for the arguments that the numbers start with: the bit pattern of its value, or a level
 abbrev pub our_answer_of : Function → List ℕ → MaybeNumber
-our_answer_of (OfLevel f) ns = levelAnswer f (slice_index ns 0)
-our_answer_of (OfNumber f) ns = bitPattern (atNumber f (real_at ns 0))
-our_answer_of (OfPair f) ns = bitPattern (atPair f (real_at ns 0) (real_at ns 1))
-our_answer_of LnSumExpArray ns = bitPattern (ln_sum_exp_array (real_at ns 0 ∷ real_at ns 1 ∷ real_at ns 2 ∷ real_at ns 3 ∷ []))
+our_answer_of (OfLevel f) ns = level_answer f (slice_index ns 0)
+our_answer_of (OfNumber f) ns = bit_pattern (at_number f (real_at ns 0))
+our_answer_of (OfPair f) ns = bit_pattern (at_pair f (real_at ns 0) (real_at ns 1))
+our_answer_of LnSumExpArray ns = bit_pattern (ln_sum_exp_array (real_at ns 0 ∷ real_at ns 1 ∷ real_at ns 2 ∷ real_at ns 3 ∷ []))
 our_answer_of LnProbToPhred ns = Number (ln_prob_to_phred (real_at ns 0))

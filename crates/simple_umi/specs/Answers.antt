@@ -37,13 +37,13 @@ pair_found (refused r) = refused r
 pair_found (accepted d) = accepted d.found
 
 -- the number (SCOPE 7) of an answer, 0 for one that is no refusal
-abbrev pub flaggedNumber : FlaggedAnswer → ℕ
-flaggedNumber (flagged.Refused r) = number_of r
-flaggedNumber (flagged.Given n e) = 0
+abbrev pub flagged_number : FlaggedAnswer → ℕ
+flagged_number (flagged.Refused r) = number_of r
+flagged_number (flagged.Given n e) = 0
 
-abbrev pub duplexNumber : DuplexAnswer → ℕ
-duplexNumber (duplex.Refused r) = number_of r
-duplexNumber (duplex.Given n a b) = 0
+abbrev pub duplex_number : DuplexAnswer → ℕ
+duplex_number (duplex.Refused r) = number_of r
+duplex_number (duplex.Given n a b) = 0
 
 -- the length of the string that was given, 0 for a refusal
 abbrev pub duplex_length : DuplexAnswer → ℕ

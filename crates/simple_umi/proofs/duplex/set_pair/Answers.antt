@@ -14,29 +14,29 @@ use Rattle.simple_umi.proofs.duplex.set_pair.Goals as goal
 
 pub slice_bounds-places-end : goal.slice_bounds-places-end
 slice_bounds-places-end c =
-    let setOf : List ℕ = c.args.set.now in
+    let set_of : List ℕ = c.args.set.now in
     let places_of : List ℕ = c.read_places.new.places in
     let count_of : ℕ = c.in-Strings.n in
-    let stringsOf : List (List ℕ) = strings_at 0 setOf (take count_of places_of) in
-    let strings : (read_set setOf ≡ accepted stringsOf) × (count_of ≤ length places_of) × Trimmed 0 setOf (take count_of places_of) = read_strings setOf places_of (replicate 255 0) c.read_places.result (c.read_places.ensures.reading, (c.read_places.ensures.lent, (c.read_places.ensures.number, c.read_places.ensures.few))) count_of c.in-Strings.is in
+    let strings_of : List (List ℕ) = strings_at 0 set_of (take count_of places_of) in
+    let strings : (read_set set_of ≡ accepted strings_of) × (count_of ≤ length places_of) × Trimmed 0 set_of (take count_of places_of) = read_strings set_of places_of (replicate 255 0) c.read_places.result (c.read_places.ensures.reading, (c.read_places.ensures.lent, (c.read_places.ensures.number, c.read_places.ensures.few))) count_of c.in-Strings.is in
     strings.1
 
 pub slice_bounds-both_strands-end : goal.slice_bounds-both_strands-end
 slice_bounds-both_strands-end c =
-    let setOf : List ℕ = c.args.set.now in
+    let set_of : List ℕ = c.args.set.now in
     let places_of : List ℕ = c.read_places.new.places in
     let count_of : ℕ = c.in-Strings.n in
-    let stringsOf : List (List ℕ) = strings_at 0 setOf (take count_of places_of) in
-    let strings : (read_set setOf ≡ accepted stringsOf) × (count_of ≤ length places_of) × Trimmed 0 setOf (take count_of places_of) = read_strings setOf places_of (replicate 255 0) c.read_places.result (c.read_places.ensures.reading, (c.read_places.ensures.lent, (c.read_places.ensures.number, c.read_places.ensures.few))) count_of c.in-Strings.is in
+    let strings_of : List (List ℕ) = strings_at 0 set_of (take count_of places_of) in
+    let strings : (read_set set_of ≡ accepted strings_of) × (count_of ≤ length places_of) × Trimmed 0 set_of (take count_of places_of) = read_strings set_of places_of (replicate 255 0) c.read_places.result (c.read_places.ensures.reading, (c.read_places.ensures.lent, (c.read_places.ensures.number, c.read_places.ensures.few))) count_of c.in-Strings.is in
     sym (length-take-le count_of places_of strings.1)
 
 pub both_strands-requires : goal.both_strands-requires
 both_strands-requires c =
-    let setOf : List ℕ = c.args.set.now in
+    let set_of : List ℕ = c.args.set.now in
     let places_of : List ℕ = c.read_places.new.places in
     let count_of : ℕ = c.in-Strings.n in
-    let stringsOf : List (List ℕ) = strings_at 0 setOf (take count_of places_of) in
-    let strings : (read_set setOf ≡ accepted stringsOf) × (count_of ≤ length places_of) × Trimmed 0 setOf (take count_of places_of) = read_strings setOf places_of (replicate 255 0) c.read_places.result (c.read_places.ensures.reading, (c.read_places.ensures.lent, (c.read_places.ensures.number, c.read_places.ensures.few))) count_of c.in-Strings.is in
+    let strings_of : List (List ℕ) = strings_at 0 set_of (take count_of places_of) in
+    let strings : (read_set set_of ≡ accepted strings_of) × (count_of ≤ length places_of) × Trimmed 0 set_of (take count_of places_of) = read_strings set_of places_of (replicate 255 0) c.read_places.result (c.read_places.ensures.reading, (c.read_places.ensures.lent, (c.read_places.ensures.number, c.read_places.ensures.few))) count_of c.in-Strings.is in
     strings.2
 
 pub returns-in-Refused : goal.returns-in-Refused
@@ -45,8 +45,8 @@ returns-in-Refused c =
 
 pub returns-in-Strings : goal.returns-in-Strings
 returns-in-Strings c =
-    let setOf : List ℕ = c.args.set.now in
+    let set_of : List ℕ = c.args.set.now in
     let places_of : List ℕ = c.read_places.new.places in
     let count_of : ℕ = c.in-Strings.n in
-    let stringsOf : List (List ℕ) = strings_at 0 setOf (take count_of places_of) in
-    let strings : (read_set setOf ≡ accepted stringsOf) × (count_of ≤ length places_of) × Trimmed 0 setOf (take count_of places_of) = read_strings setOf places_of (replicate 255 0) c.read_places.result (c.read_places.ensures.reading, (c.read_places.ensures.lent, (c.read_places.ensures.number, c.read_places.ensures.few))) count_of c.in-Strings.is in record { gave = rw (duplex_in_lem c.args.caller c.args.set.now c.args.out.now stringsOf strings.0) c.both_strands.ensures.gave; short = rw (duplex_in_lem c.args.caller c.args.set.now c.args.out.now stringsOf strings.0) c.both_strands.ensures.short }
+    let strings_of : List (List ℕ) = strings_at 0 set_of (take count_of places_of) in
+    let strings : (read_set set_of ≡ accepted strings_of) × (count_of ≤ length places_of) × Trimmed 0 set_of (take count_of places_of) = read_strings set_of places_of (replicate 255 0) c.read_places.result (c.read_places.ensures.reading, (c.read_places.ensures.lent, (c.read_places.ensures.number, c.read_places.ensures.few))) count_of c.in-Strings.is in record { gave = rw (duplex_in_lem c.args.caller c.args.set.now c.args.out.now strings_of strings.0) c.both_strands.ensures.gave; short = rw (duplex_in_lem c.args.caller c.args.set.now c.args.out.now strings_of strings.0) c.both_strands.ensures.short }

@@ -14,20 +14,20 @@ use Rattle.simple_umi.proofs.umi_caller.set_consensus.Goals as goal
 
 pub slice_bounds-places-end : goal.slice_bounds-places-end
 slice_bounds-places-end c =
-    let setOf : List ℕ = c.args.set.now in
+    let set_of : List ℕ = c.args.set.now in
     let places_of : List ℕ = c.read_places.new.places in
     let count_of : ℕ = c.in-Strings.n in
-    let stringsOf : List (List ℕ) = strings_at 0 setOf (take count_of places_of) in
-    let strings : (read_set setOf ≡ accepted stringsOf) × (count_of ≤ length places_of) × Trimmed 0 setOf (take count_of places_of) = read_strings setOf places_of (replicate 255 0) c.read_places.result (c.read_places.ensures.reading, (c.read_places.ensures.lent, (c.read_places.ensures.number, c.read_places.ensures.few))) count_of c.in-Strings.is in
+    let strings_of : List (List ℕ) = strings_at 0 set_of (take count_of places_of) in
+    let strings : (read_set set_of ≡ accepted strings_of) × (count_of ≤ length places_of) × Trimmed 0 set_of (take count_of places_of) = read_strings set_of places_of (replicate 255 0) c.read_places.result (c.read_places.ensures.reading, (c.read_places.ensures.lent, (c.read_places.ensures.number, c.read_places.ensures.few))) count_of c.in-Strings.is in
     strings.1
 
 pub slice_bounds-group_consensus-end : goal.slice_bounds-group_consensus-end
 slice_bounds-group_consensus-end c =
-    let setOf : List ℕ = c.args.set.now in
+    let set_of : List ℕ = c.args.set.now in
     let places_of : List ℕ = c.read_places.new.places in
     let count_of : ℕ = c.in-Strings.n in
-    let stringsOf : List (List ℕ) = strings_at 0 setOf (take count_of places_of) in
-    let strings : (read_set setOf ≡ accepted stringsOf) × (count_of ≤ length places_of) × Trimmed 0 setOf (take count_of places_of) = read_strings setOf places_of (replicate 255 0) c.read_places.result (c.read_places.ensures.reading, (c.read_places.ensures.lent, (c.read_places.ensures.number, c.read_places.ensures.few))) count_of c.in-Strings.is in
+    let strings_of : List (List ℕ) = strings_at 0 set_of (take count_of places_of) in
+    let strings : (read_set set_of ≡ accepted strings_of) × (count_of ≤ length places_of) × Trimmed 0 set_of (take count_of places_of) = read_strings set_of places_of (replicate 255 0) c.read_places.result (c.read_places.ensures.reading, (c.read_places.ensures.lent, (c.read_places.ensures.number, c.read_places.ensures.few))) count_of c.in-Strings.is in
     sym (length-take-le count_of places_of strings.1)
 
 pub returns-in-Refused : goal.returns-in-Refused
@@ -36,9 +36,9 @@ returns-in-Refused c =
 
 pub returns-in-Strings : goal.returns-in-Strings
 returns-in-Strings c =
-    let setOf : List ℕ = c.args.set.now in
+    let set_of : List ℕ = c.args.set.now in
     let places_of : List ℕ = c.read_places.new.places in
     let count_of : ℕ = c.in-Strings.n in
-    let stringsOf : List (List ℕ) = strings_at 0 setOf (take count_of places_of) in
-    let strings : (read_set setOf ≡ accepted stringsOf) × (count_of ≤ length places_of) × Trimmed 0 setOf (take count_of places_of) = read_strings setOf places_of (replicate 255 0) c.read_places.result (c.read_places.ensures.reading, (c.read_places.ensures.lent, (c.read_places.ensures.number, c.read_places.ensures.few))) count_of c.in-Strings.is in
-    let said = group_said c.args.caller 0 c.args.set.now (take count_of places_of) strings.2 in record { group = rw (consensus_in_lem c.args.set.now c.args.out.now c.args.caller stringsOf strings.0, strings.0, ← said) c.group_consensus.ensures.group; lent = rw (consensus_in_lem c.args.set.now c.args.out.now c.args.caller stringsOf strings.0, strings.0, ← said) c.group_consensus.ensures.lent; few = rw (consensus_in_lem c.args.set.now c.args.out.now c.args.caller stringsOf strings.0, strings.0, ← said) c.group_consensus.ensures.few }
+    let strings_of : List (List ℕ) = strings_at 0 set_of (take count_of places_of) in
+    let strings : (read_set set_of ≡ accepted strings_of) × (count_of ≤ length places_of) × Trimmed 0 set_of (take count_of places_of) = read_strings set_of places_of (replicate 255 0) c.read_places.result (c.read_places.ensures.reading, (c.read_places.ensures.lent, (c.read_places.ensures.number, c.read_places.ensures.few))) count_of c.in-Strings.is in
+    let said = group_said c.args.caller 0 c.args.set.now (take count_of places_of) strings.2 in record { group = rw (consensus_in_lem c.args.set.now c.args.out.now c.args.caller strings_of strings.0, strings.0, ← said) c.group_consensus.ensures.group; lent = rw (consensus_in_lem c.args.set.now c.args.out.now c.args.caller strings_of strings.0, strings.0, ← said) c.group_consensus.ensures.lent; few = rw (consensus_in_lem c.args.set.now c.args.out.now c.args.caller strings_of strings.0, strings.0, ← said) c.group_consensus.ensures.few }

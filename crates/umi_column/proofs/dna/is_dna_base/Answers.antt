@@ -22,13 +22,13 @@ upper x = x - x / 32 % 2 * 32
 abbrev tested : ℕ → Bool
 tested x = (eqb (upper x) 65 || eqb (upper x) 67) || (eqb (upper x) 71 || eqb (upper x) 84) || eqb (upper x) 78
 
-unfoldable testedAt : ℕ → Bool
-testedAt x = beq (tested x) (is_dna_base x)
+unfoldable tested_at : ℕ → Bool
+tested_at x = beq (tested x) (is_dna_base x)
 
-all_tested : T (every_from testedAt 0 256)
-unfolding every_from testedAt is_dna_base to_ascii_uppercase
+all_tested : T (every_from tested_at 0 256)
+unfolding every_from tested_at is_dna_base to_ascii_uppercase
 all_tested = tt
 
 pub returns : goal.returns
-unfolding testedAt
-returns c = same (tested c.args.b) (is_dna_base c.args.b) (below testedAt 256 all_tested c.args.b (omega arith))
+unfolding tested_at
+returns c = same (tested c.args.b) (is_dna_base c.args.b) (below tested_at 256 all_tested c.args.b (omega arith))
