@@ -2,7 +2,7 @@
 // observed. It goes in by value and comes back.
 ghost use Rattle.std.specs.Prelude.{◌≡◌};
 ghost use Rattle.tie_rules.specs.Lanes.{lane};
-ghost use Rattle.base_builder.specs.Builder.{total as total_of, cleared as clearedOf, new_at, with_tie_rule, reset_of, observed_by, entry_of, added_by, added, add_answer, add_number, refusal_of, contributions_of, observations_for_base};
+ghost use Rattle.base_builder.specs.Builder.{total as total_of, cleared as cleared_of, new_at, with_tie_rule, reset_of, observed_by, entry_of, added_by, added, add_answer, add_number, refusal_of, contributions_of, observations_for_base};
 
 use lane_sums::{LaneSums, count, moved_lanes, values};
 use phred::{LogProbability, PhredScore};
@@ -121,7 +121,7 @@ impl ConsensusBaseBuilder {
 }
 
 fn cleared(rule: TieRule, pre: LogProbability) -> ConsensusBaseBuilder
-    ensures { result ≡ clearedOf rule pre }
+    ensures { result ≡ cleared_of rule pre }
 {
     ConsensusBaseBuilder {
         likelihoods: [0.0; 4],

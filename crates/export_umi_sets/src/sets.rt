@@ -3,7 +3,7 @@ ghost use Rattle.std.specs.Prelude.{◌≡◌};
 ghost use Rattle.lent_bytes.specs.Buffer.{length_written, written};
 ghost use Rattle.lent_text.specs.Printed.{Printed};
 ghost use Rattle.export_umi_sets.specs.Reading.{sets_in};
-ghost use Rattle.export_umi_sets.specs.Answers.{after_set, set_bytes, answers_to, umiSetsBytes};
+ghost use Rattle.export_umi_sets.specs.Answers.{after_set, set_bytes, answers_to, umi_sets_bytes};
 ghost use Rattle.export_umi_sets.specs.Places.{PutAll};
 
 use crate::places::{SetPlace, set_at};
@@ -107,8 +107,8 @@ pub fn umi_sets(
     sets: &[u8],
     out: &mut [u8],
 ) -> u64
-    ensures reply { result ≡ length_written (umiSetsBytes pre.0 post.0 quality.0 which sets.now) out.old }
-    ensures lent { out.new ≡ written (umiSetsBytes pre.0 post.0 quality.0 which sets.now) out.old }
+    ensures reply { result ≡ length_written (umi_sets_bytes pre.0 post.0 quality.0 which sets.now) out.old }
+    ensures lent { out.new ≡ written (umi_sets_bytes pre.0 post.0 quality.0 which sets.now) out.old }
 {
     let caller = SimpleConsensusCaller::new(pre, post, quality);
     match which {

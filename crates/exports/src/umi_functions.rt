@@ -5,7 +5,7 @@ ghost use Rattle.umi_column.specs.Dna.{is_dna_base};
 ghost use Rattle.simple_consensus.specs.Consensus.{caller_at};
 ghost use Rattle.export_umi.specs.Codes.{bit, umi_reply, umi_buffer};
 ghost use Rattle.export_umi.specs.Sent.{caller_reply, caller_buffer};
-ghost use Rattle.export_umi_sets.specs.Answers.{umiSetsBytes};
+ghost use Rattle.export_umi_sets.specs.Answers.{umi_sets_bytes};
 
 use phred::PhredScore;
 use simple_consensus::SimpleConsensusCaller;
@@ -63,8 +63,8 @@ pub extern "C" fn consensus_umi_sets(
     sets: &[u8],
     out: &mut [u8],
 ) -> u64
-    ensures reply { result ≡ length_written (umiSetsBytes pre post quality which sets.now) out.old }
-    ensures lent { out.new ≡ written (umiSetsBytes pre post quality which sets.now) out.old }
+    ensures reply { result ≡ length_written (umi_sets_bytes pre post quality which sets.now) out.old }
+    ensures lent { out.new ≡ written (umi_sets_bytes pre post quality which sets.now) out.old }
 {
     export_umi_sets::umi_sets(
         PhredScore(pre),

@@ -1,6 +1,6 @@
 // What is called, and how a shortcut answers.
 ghost use Rattle.std.specs.Prelude.{◌≡◌};
-ghost use Rattle.lane_calls.specs.Calls.{called as calledOf, no_call};
+ghost use Rattle.lane_calls.specs.Calls.{called as called_of, no_call};
 
 use phred::PhredScore;
 
@@ -21,7 +21,7 @@ pub enum Reply {
 
 // The base of a lane with a quality.
 pub fn called(lane: usize, qual: u8) -> Call
-    ensures { result ≡ calledOf lane qual }
+    ensures { result ≡ called_of lane qual }
 {
     Call {
         base: tie_rules::base_of(lane),

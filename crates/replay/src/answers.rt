@@ -1,6 +1,6 @@
 // What our functions give for the numbers of a line.
 ghost use Rattle.std.specs.Prelude.{◌≡◌};
-ghost use Rattle.replay.specs.Answers.{atLevel, atNumber, atPair, bitPattern, levelAnswer, our_answer_of};
+ghost use Rattle.replay.specs.Answers.{at_level, at_number, at_pair, bit_pattern, level_answer, our_answer_of};
 
 use crate::functions::{Function, LevelFunction, NumberFunction, PairFunction};
 use crate::hex::MaybeNumber;
@@ -30,7 +30,7 @@ pub fn our_answer(function: Function, numbers: [u64; NUMBERS]) -> MaybeNumber
 
 // There is no value at a level of more than 8 bits.
 fn level_answer(f: LevelFunction, n: u64) -> MaybeNumber
-    ensures { result ≡ levelAnswer f n }
+    ensures { result ≡ level_answer f n }
 {
     if 255 < n {
         return MaybeNumber::NoNumber;
@@ -39,7 +39,7 @@ fn level_answer(f: LevelFunction, n: u64) -> MaybeNumber
 }
 
 fn at_level(f: LevelFunction, level: PhredScore) -> f64
-    ensures { result ≡ atLevel f level.0 }
+    ensures { result ≡ at_level f level.0 }
 {
     match f {
         LevelFunction::PhredToLnErrorProb => phred::phred_to_ln_error_prob(level).0,
@@ -48,7 +48,7 @@ fn at_level(f: LevelFunction, level: PhredScore) -> f64
 }
 
 fn at_number(f: NumberFunction, x: f64) -> f64
-    ensures { result ≡ atNumber f x }
+    ensures { result ≡ at_number f x }
 {
     match f {
         NumberFunction::Exp => elementary::exp(x),
@@ -62,7 +62,7 @@ fn at_number(f: NumberFunction, x: f64) -> f64
 }
 
 fn at_pair(f: PairFunction, x: f64, y: f64) -> f64
-    ensures { result ≡ atPair f x y }
+    ensures { result ≡ at_pair f x y }
 {
     match f {
         PairFunction::LnAMinusB => phred::ln_a_minus_b(x, y),
@@ -75,7 +75,7 @@ fn at_pair(f: PairFunction, x: f64, y: f64) -> f64
 }
 
 fn bit_pattern(x: f64) -> MaybeNumber
-    ensures { result ≡ bitPattern x }
+    ensures { result ≡ bit_pattern x }
 {
     MaybeNumber::Number(float::pattern(x))
 }

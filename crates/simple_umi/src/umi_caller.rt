@@ -7,7 +7,7 @@ ghost use Rattle.string_set.specs.StringSet.{read_set};
 ghost use Rattle.umi_groups.specs.Found.{flagged_of, flagged_length, found_length, buffer_after};
 ghost use Rattle.simple_consensus.specs.Consensus.{default_caller, consensus_of};
 ghost use Rattle.simple_consensus.specs.Answers.{caller_after, group_consensus_of};
-ghost use Rattle.simple_umi.specs.Answers.{consensus_in, duplex_in, flaggedNumber, duplex_answer_of, duplexNumber, duplex_length, pair_found};
+ghost use Rattle.simple_umi.specs.Answers.{consensus_in, duplex_in, flagged_number, duplex_answer_of, duplex_number, duplex_length, pair_found};
 
 use crate::answers::DuplexAnswer;
 use crate::duplex::{caller_after, set_pair};
@@ -56,7 +56,7 @@ impl SimpleUmiConsensusCaller {
         ensures caller { result.caller.caller ≡ caller_after self.caller (consensus_in self.caller set.now out.old) }
         ensures lent { out.new ≡ buffer_after out.old (consensus_in self.caller set.now out.old) }
         ensures short { flagged_length result.answer ≤ 255 }
-        ensures number { flaggedNumber result.answer ≡ number_in (consensus_in self.caller set.now out.old) }
+        ensures number { flagged_number result.answer ≡ number_in (consensus_in self.caller set.now out.old) }
         ensures fits { 255 ≤ length out.old → consensus_in self.caller set.now out.old ≡ and_then (read_set set.now) (consensus_of self.caller) }
     {
         let caller = self.caller;
@@ -76,7 +76,7 @@ impl SimpleUmiConsensusCaller {
         ensures caller { result.caller.caller ≡ caller_after self.caller (pair_found (duplex_in self.caller set.now out.old)) }
         ensures lent { out.new ≡ buffer_after out.old (pair_found (duplex_in self.caller set.now out.old)) }
         ensures short { duplex_length result.answer ≤ 255 }
-        ensures number { duplexNumber result.answer ≡ number_in (duplex_in self.caller set.now out.old) }
+        ensures number { duplex_number result.answer ≡ number_in (duplex_in self.caller set.now out.old) }
     {
         let caller = self.caller;
         let pair = set_pair(caller, set, out);

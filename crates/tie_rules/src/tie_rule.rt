@@ -1,7 +1,7 @@
 // How a near-tie between the greatest likelihoods is resolved: the lane of the maximum, or none.
 ghost use Rattle.std.specs.Prelude.{◌≡◌, ◌<◌, true, not, ◌||◌, eqb};
 ghost use Rattle.tie_rules.specs.declared.tie_rule.TieRule.TheVariants.{FgbioCompat};
-ghost use Rattle.tie_rules.specs.Ties.{rule_of, fgbio_tie, near_patterns, ulp_tie, fgbio_tested, ties_with, untied as untiedOf, fgbio_step, ulp_step, scan, unseen, below_every, unique_max_index, unique_max_index_with};
+ghost use Rattle.tie_rules.specs.Ties.{rule_of, fgbio_tie, near_patterns, ulp_tie, fgbio_tested, ties_with, untied as untied_of, fgbio_step, ulp_step, scan, unseen, below_every, unique_max_index, unique_max_index_with};
 
 use crate::lane::NO_LANE;
 use crate::lead::fgbio_lead;
@@ -186,7 +186,7 @@ fn apart(rule: TieRule, i: usize, m: f64, j: usize, x: f64) -> bool
 
 // Whether no lane but i, of the value m, ties with it: lane by lane.
 fn none_ties(rule: TieRule, likelihoods: [f64; 4], i: usize, m: f64) -> bool
-    ensures { result ≡ untiedOf rule likelihoods i m }
+    ensures { result ≡ untied_of rule likelihoods i m }
 {
     let mut j = 0;
     while j < 4 {
@@ -202,7 +202,7 @@ fn none_ties(rule: TieRule, likelihoods: [f64; 4], i: usize, m: f64) -> bool
 // whichever of the two comes first.
 fn clears_others(likelihoods: [f64; 4], i: usize, m: f64) -> bool
     requires { i < 4 }
-    ensures { result ≡ true → untiedOf FgbioCompat likelihoods i m ≡ true }
+    ensures { result ≡ true → untied_of FgbioCompat likelihoods i m ≡ true }
 {
     if FGBIO_TIE_EPSILON < m - likelihoods[(i + 1) % 4] {
         if FGBIO_TIE_EPSILON < m - likelihoods[(i + 2) % 4] {
@@ -214,7 +214,7 @@ fn clears_others(likelihoods: [f64; 4], i: usize, m: f64) -> bool
 
 // The same by fgbio's rule, with the likely answer first.
 fn fgbio_untied(likelihoods: [f64; 4], i: usize, m: f64) -> bool
-    ensures { result ≡ untiedOf FgbioCompat likelihoods i m }
+    ensures { result ≡ untied_of FgbioCompat likelihoods i m }
 {
     if i < 4 {
         if clears_others(likelihoods, i, m) {
@@ -226,7 +226,7 @@ fn fgbio_untied(likelihoods: [f64; 4], i: usize, m: f64) -> bool
 
 // Whether no lane but i, of the value m, ties with it.
 pub fn untied(rule: TieRule, likelihoods: [f64; 4], i: usize, m: f64) -> bool
-    ensures { result ≡ untiedOf rule likelihoods i m }
+    ensures { result ≡ untied_of rule likelihoods i m }
 {
     match rule {
         TieRule::UlpRelative => none_ties(TieRule::UlpRelative, likelihoods, i, m),

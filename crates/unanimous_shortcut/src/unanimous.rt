@@ -1,8 +1,8 @@
 // The shortcut where one base alone was observed.
 ghost use Rattle.std.specs.Prelude.{◌≡◌, ◌≤◌};
-ghost use Rattle.lane_calls.specs.Calls.{outside as outsideOf};
+ghost use Rattle.lane_calls.specs.Calls.{outside as outside_of};
 ghost use Rattle.unanimous_shortcut.specs.Sole.{seen_of};
-ghost use Rattle.unanimous_shortcut.specs.Unanimous.{sole_lane, leads as leadsOf, tables_of, cap_reply, bracket_reply, gap_reply, reply_for_lane, unanimous_reply};
+ghost use Rattle.unanimous_shortcut.specs.Unanimous.{sole_lane, leads as leads_of, tables_of, cap_reply, bracket_reply, gap_reply, reply_for_lane, unanimous_reply};
 
 use crate::search::partition_point;
 use lane_calls::{Reply, called, no_call, unanimous_margin};
@@ -36,7 +36,7 @@ pub fn sole_lane(observations: [u32; 4]) -> usize
 
 // Whether the winner leads the loser by a finite gap above 2^-52.
 fn leads(winner_ll: f64, loser_ll: f64) -> bool
-    ensures { result ≡ leadsOf winner_ll loser_ll }
+    ensures { result ≡ leads_of winner_ll loser_ll }
 {
     let gap = winner_ll - loser_ll;
     if float::is_finite(gap) {
@@ -47,7 +47,7 @@ fn leads(winner_ll: f64, loser_ll: f64) -> bool
 
 // What a step gives that would read outside the tables.
 fn outside() -> Reply
-    ensures { result ≡ outsideOf }
+    ensures { result ≡ outside_of }
 {
     Reply::Replied(no_call())
 }

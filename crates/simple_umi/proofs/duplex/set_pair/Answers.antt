@@ -41,7 +41,7 @@ both_strands-requires c =
 
 pub returns-in-Refused : goal.returns-in-Refused
 returns-in-Refused c =
-    let e = read-refused c.args.set.now c.read_places.new.places (replicate 255 0) c.read_places.result (c.read_places.ensures.reading, (c.read_places.ensures.lent, (c.read_places.ensures.number, c.read_places.ensures.few))) _ c.in-Refused.is in record { gave = rw (duplex_in_refused c.args.caller c.args.set.now c.args.out.now _ e) (pair_refused c.args.caller _ c.args.out.now _ refl); short = rw (duplex_in_refused c.args.caller c.args.set.now c.args.out.now _ e) (omega arith) }
+    let e = read-refused c.args.set.now c.read_places.new.places (replicate 255 0) c.read_places.result (c.read_places.ensures.reading, (c.read_places.ensures.lent, (c.read_places.ensures.number, c.read_places.ensures.few))) _ c.in-Refused.is in record { gave = rw (duplex_in_refused c.args.caller c.args.set.now c.args.out.now _ e) (pair_refused c.args.caller _ c.args.out.now _ refl); short = omega arith }
 
 pub returns-in-Strings : goal.returns-in-Strings
 returns-in-Strings c =
@@ -49,4 +49,4 @@ returns-in-Strings c =
     let places_of : List ℕ = c.read_places.new.places in
     let count_of : ℕ = c.in-Strings.n in
     let strings_of : List (List ℕ) = strings_at 0 set_of (take count_of places_of) in
-    let strings : (read_set set_of ≡ accepted strings_of) × (count_of ≤ length places_of) × Trimmed 0 set_of (take count_of places_of) = read_strings set_of places_of (replicate 255 0) c.read_places.result (c.read_places.ensures.reading, (c.read_places.ensures.lent, (c.read_places.ensures.number, c.read_places.ensures.few))) count_of c.in-Strings.is in record { gave = rw (duplex_in_lem c.args.caller c.args.set.now c.args.out.now strings_of strings.0) c.both_strands.ensures.gave; short = rw (duplex_in_lem c.args.caller c.args.set.now c.args.out.now strings_of strings.0) c.both_strands.ensures.short }
+    let strings : (read_set set_of ≡ accepted strings_of) × (count_of ≤ length places_of) × Trimmed 0 set_of (take count_of places_of) = read_strings set_of places_of (replicate 255 0) c.read_places.result (c.read_places.ensures.reading, (c.read_places.ensures.lent, (c.read_places.ensures.number, c.read_places.ensures.few))) count_of c.in-Strings.is in record { gave = rw (duplex_in_lem c.args.caller c.args.set.now c.args.out.now strings_of strings.0) c.both_strands.ensures.gave; short = c.both_strands.ensures.short }

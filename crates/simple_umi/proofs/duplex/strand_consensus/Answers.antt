@@ -19,4 +19,9 @@ returns c =
     let places = take c.strand_places-n.result c.strand_places-n.new.kept in
     let said : group_by c.args.caller 2 c.args.set.now places ≡ consensus_of c.args.caller (strand_of c.args.letter (strings_at 0 c.args.set.now c.args.places.now)) =
     group_said c.args.caller 2 c.args.set.now places c.strand_places-n.ensures.inside.1 ∙ ap (consensus_of c.args.caller) c.strand_places-n.ensures.strings in
-    let fits = room_fits c.args.text.now (group_by c.args.caller 2 c.args.set.now places) (omega (arith, c.group_consensus.ensures.few, c.requires.0)) in let told = rw fits at (c.group_consensus.ensures.group, (c.group_consensus.ensures.lent, c.group_consensus.ensures.few)) in record { group = rw (← said) told.0; lent = rw (← said) told.1.0; few = rw (← said) told.1.1 }
+    let fits = room_fits c.args.text.now (group_by c.args.caller 2 c.args.set.now places) (omega (arith, c.group_consensus.ensures.few, c.requires.0)) in
+    record {
+      group = rw (← said) (rw fits at c.group_consensus.ensures.group);
+      lent = rw (← said) (rw fits at c.group_consensus.ensures.lent);
+      few = rw (← said) c.group_consensus.ensures.few;
+    }
