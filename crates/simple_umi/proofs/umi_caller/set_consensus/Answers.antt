@@ -32,7 +32,9 @@ slice_bounds-group_consensus-end c =
 
 pub returns-in-Refused : goal.returns-in-Refused
 returns-in-Refused c =
-    let e = read-refused c.args.set.now c.read_places.new.places (replicate 255 0) c.read_places.result (c.read_places.ensures.reading, (c.read_places.ensures.lent, (c.read_places.ensures.number, c.read_places.ensures.few))) _ c.in-Refused.is in record { group = rw (consensus_in_refused c.args.set.now c.args.out.now c.args.caller _ e, e) refl; lent = rw (consensus_in_refused c.args.set.now c.args.out.now c.args.caller _ e, e) refl; few = rw (consensus_in_refused c.args.set.now c.args.out.now c.args.caller _ e, e) (omega arith) }
+    let e = read-refused c.args.set.now c.read_places.new.places (replicate 255 0) c.read_places.result (c.read_places.ensures.reading, (c.read_places.ensures.lent, (c.read_places.ensures.number, c.read_places.ensures.few))) _ c.in-Refused.is in
+    let refusal = consensus_in_refused c.args.set.now c.args.out.now c.args.caller _ e in
+    record { group = rw refusal refl; lent = rw refusal refl; few = rw e (omega arith) }
 
 pub returns-in-Strings : goal.returns-in-Strings
 returns-in-Strings c =
@@ -41,4 +43,10 @@ returns-in-Strings c =
     let count_of : ℕ = c.in-Strings.n in
     let strings_of : List (List ℕ) = strings_at 0 set_of (take count_of places_of) in
     let strings : (read_set set_of ≡ accepted strings_of) × (count_of ≤ length places_of) × Trimmed 0 set_of (take count_of places_of) = read_strings set_of places_of (replicate 255 0) c.read_places.result (c.read_places.ensures.reading, (c.read_places.ensures.lent, (c.read_places.ensures.number, c.read_places.ensures.few))) count_of c.in-Strings.is in
-    let said = group_said c.args.caller 0 c.args.set.now (take count_of places_of) strings.2 in record { group = rw (consensus_in_lem c.args.set.now c.args.out.now c.args.caller strings_of strings.0, strings.0, ← said) c.group_consensus.ensures.group; lent = rw (consensus_in_lem c.args.set.now c.args.out.now c.args.caller strings_of strings.0, strings.0, ← said) c.group_consensus.ensures.lent; few = rw (consensus_in_lem c.args.set.now c.args.out.now c.args.caller strings_of strings.0, strings.0, ← said) c.group_consensus.ensures.few }
+    let said = group_said c.args.caller 0 c.args.set.now (take count_of places_of) strings.2 in
+    let called = consensus_in_lem c.args.set.now c.args.out.now c.args.caller strings_of strings.0 in
+    record {
+      group = rw (called, ← said) c.group_consensus.ensures.group;
+      lent = rw (called, ← said) c.group_consensus.ensures.lent;
+      few = rw (strings.0, ← said) c.group_consensus.ensures.few;
+    }
