@@ -28,7 +28,7 @@ returns-then-code-lt256 c =
     let found : Result Found = asked_found c.args.question c.args.caller c.args.set.now room_for_string in
     let code : ℕ = code_by c.args.question c.args.caller c.args.set.now room_for_string in
     let code_is : c.ask-asked.result.code ≡ code = ap (λ (a : Asked). a.code) c.ask-asked.ensures.asked in
-    let e = code_is in let told = not_sent code c.args.out.now found ((by_code c.args.question c.args.caller c.args.set.now room_for_string).0 (subst (λ (n : ℕ). n < 256) e c.if-code-lt256.true)) in record { reply = rw e told.0; lent = rw e told.1 }
+    let e = code_is in let told = not_sent code c.args.out.now found ((by_code c.args.question c.args.caller c.args.set.now room_for_string).0 (subst (λ (n : ℕ). n < 256) e c.if-code-lt256.true)) in record { reply = rw e told.0; lent = told.1 }
 
 pub returns : goal.returns
 returns c =
