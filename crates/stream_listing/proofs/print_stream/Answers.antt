@@ -17,6 +17,6 @@ returns c =
     let text = c.args.text.now in
     let t = listing_of (take c.args.read room) in
     let long = fits (take c.args.read room) in
-    let more : longest_file < length room = omega (arith, c.print_front-arg-1.given.0) in
-    let inside : length t ≤ length text = omega (arith, long.most, c.print_front-arg-2-1.given.0.1) in
+    let more : longest_file < length room = omega arith in
+    let inside : length t ≤ length text = omega (arith, long.most) in
     let reply : c.print_front.result ≡ length t = c.print_front.ensures.reply ∙ sym (fits_replied t text inside) in record { reply = reply; lent = c.print_front.ensures.lent ∙ fits_onto t text inside; whole = λ stream h. same_said listing_of longest_file long_alike stream c.args.read room more h; some = omega (arith, long.some) }

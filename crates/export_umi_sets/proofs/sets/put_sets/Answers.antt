@@ -3,7 +3,7 @@ use mathlib.Core.Path.{◌≡◌, sym, ◌∙◌, ap}
 use mathlib.Core.List.{List, [], ◌++◌}
 use Prim.Native.Nat.{ℕ, ◌+◌, ◌-◌, ◌≤◌}
 use native.Mathlib.Omega.{arith}
-use lib.ListN.{length, take, drop}
+use lib.ListN.{length}
 use Rattle.lent_text.proofs.Printed.{print_then, print_none, printed_length}
 use Rattle.string_set.proofs.Readers.{prepend_none}
 use Rattle.export_umi_sets.specs.Reading.{sets_in}
@@ -12,26 +12,6 @@ use Rattle.export_umi_sets.specs.Places.{size_at}
 use Rattle.export_umi_sets.proofs.Walk.{said_past, said_at, set_there, part_there, turn, turn_cut, turn_end}
 use Rattle.export_umi_sets.proofs.Buffers.{put_past, put_at}
 use Rattle.export_umi_sets.proofs.sets.put_sets.Goals as goal
-
--- the set that the step names: where it is, and its bytes
-module _ (c : tie.After-known-told invariant-loop decreases-loop) where
-  abbrev start : ℕ
-  start = c.in-At.start
-
-  abbrev end : ℕ
-  end = c.in-At.end
-
-  abbrev at : ℕ
-  at = c.loop-at.at
-
-  abbrev s : List ℕ
-  s = c.args.sets.now
-
-  where-is : (start ≡ at + 4) × (end ≡ at + 4 + size_at s at) × (at + 4 + size_at s at ≤ length s)
-  where-is = said_at s at c.set_at-next.result c.set_at-next.ensures start end c.in-At.is
-
-  there : take (end - start) (drop start s) ≡ set_there s at
-  there = part_there s at start end where-is.0 where-is.1
 
 pub loop-at-init : goal.loop-at-init
 unfolding sets_in
@@ -50,23 +30,23 @@ returns-in_default c =
     (sym c.loop-at.invariant.5 ∙ turn_cut c.args.question c.loop-at.current c.args.sets.now c.loop-at.at c.loop-at.invariant.1 c.loop-at.invariant.3 c.loop-at-test.true c.loop-at.invariant.2 cut)
 
 pub slice_bounds-put_set-count : goal.slice_bounds-put_set-count
-slice_bounds-put_set-count c = let (x, y, z) = where-is c in omega arith
+slice_bounds-put_set-count c = let (x, y, z) = said_at c.args.sets.now c.loop-at.at c.set_at-next.result c.set_at-next.ensures c.in-At.start c.in-At.end c.in-At.is in omega arith
 
 pub slice_bounds-put_set-start : goal.slice_bounds-put_set-start
-slice_bounds-put_set-start c = let (x, y, z) = where-is c in omega arith
+slice_bounds-put_set-start c = let (x, y, z) = said_at c.args.sets.now c.loop-at.at c.set_at-next.result c.set_at-next.ensures c.in-At.start c.in-At.end c.in-At.is in omega arith
 
 pub slice_bounds-put_set-end : goal.slice_bounds-put_set-end
-slice_bounds-put_set-end c = let (x, y, z) = where-is c in omega arith
+slice_bounds-put_set-end c = let (x, y, z) = said_at c.args.sets.now c.loop-at.at c.set_at-next.result c.set_at-next.ensures c.in-At.start c.in-At.end c.in-At.is in omega arith
 
 pub loop-at-smaller : goal.loop-at-smaller
 loop-at-smaller c =
-    let (x, y, z) = where-is c in omega arith
+    let (x, y, z) = said_at c.args.sets.now c.loop-at.at c.set_at-next.result c.set_at-next.ensures c.in-At.start c.in-At.end c.in-At.is in omega arith
 
 pub loop-at-preserved : goal.loop-at-preserved
 loop-at-preserved c =
     let q = c.args.question in
-    let (x, y, z) = where-is c in
-    let e = there c in (
+    let (x, y, z) = said_at c.args.sets.now c.loop-at.at c.set_at-next.result c.set_at-next.ensures c.in-At.start c.in-At.end c.in-At.is in
+    let e = part_there c.args.sets.now c.loop-at.at c.in-At.start c.in-At.end x y in (
       omega arith,
       c.loop-at.invariant.1 - 1,
       omega arith,

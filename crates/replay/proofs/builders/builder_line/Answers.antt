@@ -10,9 +10,7 @@ unfolding is_builder_line builder_line
 returns-then-line-ne450 c = rw (ne_eqb _ _ c.if-line-ne450.true)
 
 pub returns-then-not-formed : goal.returns-then-not-formed
-unfolding builder_line
-
-unfolding is_builder_line
+unfolding builder_line is_builder_line
 returns-then-not-formed c =
     let line : List ℕ = c.args.line.now in
     let newline : Bool = eqb (get_or line 449 0) 10 in
@@ -21,12 +19,10 @@ returns-then-not-formed c =
     let formed-3 : Bool = formed-2 && c.read_field-3.result in
     let formed : Bool = formed-3 && c.read_field-4.result in
     let form : is_builder_line line ≡ formed = rw (eq-eqb _ _ c.if-line-ne450.false, ← c.read_field.ensures.value, ← c.read_field-2.ensures.value, ← c.read_field-3.ensures.value, ← c.read_field-4.ensures.value) in
-    rw (form, not-true formed c.if-not-formed.true)
+    rw (form, c.if-not-formed.true)
 
 pub returns : goal.returns
-unfolding builder_line
-
-unfolding is_builder_line
+unfolding builder_line is_builder_line
 returns c =
     let line : List ℕ = c.args.line.now in
     let newline : Bool = eqb (get_or line 449 0) 10 in
@@ -35,7 +31,7 @@ returns c =
     let formed-3 : Bool = formed-2 && c.read_field-3.result in
     let formed : Bool = formed-3 && c.read_field-4.result in
     let form : is_builder_line line ≡ formed = rw (eq-eqb _ _ c.if-line-ne450.false, ← c.read_field.ensures.value, ← c.read_field-2.ensures.value, ← c.read_field-3.ensures.value, ← c.read_field-4.ensures.value) in
-    let all = not-false formed c.if-not-formed.false in
+    let all = c.if-not-formed.false in
     let t4 = both formed-3 c.read_field-4.result all in
     let t3 = both formed-2 c.read_field-3.result t4.0 in
     let t2 = both formed-1 c.read_field-2.result t3.0 in
