@@ -24,8 +24,9 @@ loop-k-preserved c =
     let turn = kept_turn c.args.letter c.args.set.now c.args.places.now (length c.args.kept.now) c.loop-k.k c.loop-k.kept c.loop-k.n c.loop-k.invariant c.requires.0 more
     (c.requires.1.1 c.loop-k.k more).0 c.ends_in.result c.ends_in.ensures in
     elim c.if-ends_in.branch [
-      then-ends_in w ↦ turn.more w.if-ends_in.true c.if-ends_in.kept c.if-ends_in.n w.kept-is w.n-is
-    | else-ends_in w ↦ turn.same w.if-ends_in.false c.if-ends_in.kept c.if-ends_in.n w.kept-is w.n-is ]
+      | then-ends_in w ↦ turn.more w.if-ends_in.true c.if-ends_in.kept c.if-ends_in.n w.kept-is w.n-is
+      | else-ends_in w ↦ turn.same w.if-ends_in.false c.if-ends_in.kept c.if-ends_in.n w.kept-is w.n-is
+    ]
 
 pub shape_of-kept : goal.shape_of-kept
 shape_of-kept c = c.loop-k.invariant.2
