@@ -19,21 +19,31 @@ use functions::LONGEST_LINE;
 use lines::LineVerdict;
 use std::io;
 use std::io::Read;
+use std::process::ExitCode;
 
 // A proved loop has to end, and nothing says that an input does. No stored list is this long.
 const MOST_LINES: u64 = 1_000_000;
 
-fn main(rt: HostRuntime) -> io::Result<()> {
+// What could not be written ends it with the exit status 1.
+fn main(rt: HostRuntime) -> ExitCode {
+    match replay(&rt, &mut rt.stdin()) {
+        Ok(()) => ExitCode::SUCCESS,
+        Err(_) => ExitCode::FAILURE,
+    }
+}
+
+// Every line of the list, and then the counts.
+fn replay<P: Print, R: Read>(rt: &P, input: &mut R) -> io::Result<()> {
     let mut counts = [0; COUNTERS];
     let mut lines: u64 = 0;
     while lines < MOST_LINES {
-        let verdict = next_line(&rt, &mut rt.stdin())?;
+        let verdict = next_line(rt, input)?;
         match verdict {
             LineVerdict::End => {
                 break;
             }
             LineVerdict::NotAnAnswer => {
-                return print_place(&rt, lines + 1);
+                return print_place(rt, lines + 1);
             }
             LineVerdict::Equal(_) => {}
             LineVerdict::Differs(_) => {}
@@ -41,7 +51,7 @@ fn main(rt: HostRuntime) -> io::Result<()> {
         counts::count_line(&mut counts, verdict);
         lines += 1;
     }
-    print_all(&rt, &counts)
+    print_all(rt, &counts)
 }
 
 // Reads a line and judges it. A line that differs is written out.
