@@ -12,8 +12,8 @@ truncating_f64_to_u64-requires c = record { lower_bound = rw (lt_trans (fin true
 pub returns-then-x-2 : goal.returns-then-x-2
 returns-then-x-2 c = c.truncating_f64_to_u64.ensures ∙ sym (floor_unsigned _)
 
-pub returns-then-x : goal.returns-then-x
-returns-then-x c = floor_most _ c.if-x.true c.if-x-2.false
+pub returns-else-x-2 : goal.returns-else-x-2
+returns-else-x-2 c = floor_most _ c.if-x.true c.if-x-2.false
 
-pub returns : goal.returns
-returns c = floor_least _ c.if-x.false
+pub returns-else-x : goal.returns-else-x
+returns-else-x c = floor_least _ c.if-x.false
