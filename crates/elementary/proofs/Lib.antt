@@ -1,3 +1,4 @@
 pub mod Numbers
+pub mod LnRanges
 pub mod Signs
 pub mod Domain

@@ -1,13 +1,14 @@
 -- Which products and sums are no NaN, and two laws of the order of floats. Assumes nothing.
 use mathlib.Core.Path.{◌≡◌, refl}
 use mathlib.Core.Bool.{Bool, true, false, not, cond}
-use mathlib.Core.Logic.{⊎_elim}
 use Prim.Native.Nat.{◌*◌}
 use lib.Dec.{T, eqb}
-use lib.Ieee.{Float, nan, inf, fin, binary64, up, down, unlike, mul, lt, le, eq, is_nan, of_bits}
-use Rattle.float.specs.Ops.{◌⊗◌, plus_zero}
-use Rattle.words.proofs.Cases.{test, clash}
-use Rattle.float.proofs.Order.{lt_numbers, le_numbers, lt_trans, eq_lt, le_not_lt, le_or, not_lt_le, round_has, not_nan_add}
+use lib.Ieee.{Float, nan, inf, fin, binary64, up, down, unlike, mul, eq, is_nan, of_bits}
+use Rattle.float.specs.Ops.{◌⊗◌, plus_zero, one}
+use Rattle.elementary_tables.proofs.Heads.{head_from_1, head_below_2}
+use Rattle.float.proofs.Constants.{infinity}
+use Rattle.float.proofs.Patterns.{no_nan}
+use Rattle.float.proofs.Order.{ne_self, lt_numbers, le_numbers, lt_trans, eq_lt, le_not_lt, le_or, not_lt_le, round_has, not_nan_add}
 use Rattle.elementary.specs.Exp.{shift, steps_of}
 
 -- finite and not 0
@@ -36,19 +37,16 @@ pub steps_number : (x : Float) → is_nan x ≡ false → is_nan (steps_of x) �
 unfolding of_bits
 steps_number x h = not_nan_add _ shift tt (not_nan_mul x _ tt h)
 
--- what is below something is below all that is no less
-pub lt_le_lt : (a b c : Float) → lt a b ≡ true → le b c ≡ true → lt a c ≡ true
-lt_le_lt a b c h k =
-    test (lt a c) (λ t. t)
-    (λ f. clash (le_not_lt b c k)
-    (⊎_elim (λ u. lt_trans c a b u h) (λ u. eq_lt c a b u h) (le_or c a (not_lt_le a c (lt_numbers a b h).0 (le_numbers b c k).1 f))))
+-- 0 is equal to itself, and 1 is not
+pub one_not_zero : eq one plus_zero ≡ false
+unfolding eq of_bits
+one_not_zero = refl
 
--- a number that is not 0 or more is below 0
-pub below_0 : (x : Float) → is_nan x ≡ false → le plus_zero x ≡ false → lt x plus_zero ≡ true
-unfolding is_nan of_bits
-below_0 x n h = test (lt x plus_zero) (λ t. t) (λ f. clash h (not_lt_le x plus_zero n refl f))
-
--- 0 is equal to itself
 pub zero_equal : eq plus_zero plus_zero ≡ true
 unfolding eq of_bits
 zero_equal = refl
+
+-- what `exp` and `near` of exponential.rt need beside their definitions
+pub ruleset ends_of_exp = (ne_self, infinity)
+
+pub ruleset sums_of_exp = (steps_number, head_from_1, head_below_2, no_nan)

@@ -34,25 +34,19 @@ const UP: f64 = 1.0000000000000002;
 const DOWN: f64 = 0.9999999999999999;
 
 // exp(x) - 1: -1 at -infinity.
+#[tactic(auto, unfolding(crate::specs::ExpMinusOne::exp_minus_one_of))]
 pub fn exp_m1(x: f64) -> f64
     ensures { result ≡ exp_minus_one_of x }
 {
-    let mut y = x;
-    let mut c = 0.0;
-    if !float::between(-HALF_LN_2, x, HALF_LN_2) {
-        if !float::between(-THREE_HALVES_LN_2, x, 0.0) {
-            return exp(x) - 1.0;
-        }
-        let hi = x + LN_2_HI;
-        y = hi + LN_2_LO;
-        c = (hi - y) + LN_2_LO;
-    }
-    // in one place for both, so that it is compiled into this function
-    let a = correction_at(y);
     if float::between(-HALF_LN_2, x, HALF_LN_2) {
-        return near_zero(x, a);
+        near_zero(x, correction_at(x))
+    } else if float::between(-THREE_HALVES_LN_2, x, 0.0) {
+        let hi = x + LN_2_HI;
+        let y = hi + LN_2_LO;
+        shifted(y, (hi - y) + LN_2_LO, correction_at(y))
+    } else {
+        exp(x) - 1.0
     }
-    shifted(y, c, a)
 }
 
 // y^2 / 2, the series r, and two numbers between which e lies: exp(y) - 1 is y - (e * y - y^2 / 2).
@@ -64,6 +58,9 @@ pub struct Correction {
     pub high: f64,
 }
 
+// These for a y, compiled into both places that ask for them.
+#[inline(always)]
+#[tactic(auto, unfolding(crate::specs::ExpMinusOne::correction_of))]
 fn correction_at(y: f64) -> Correction
     ensures { result ≡ correction_of y }
 {
@@ -96,25 +93,29 @@ fn exact(y: f64, a: Correction) -> f64
 }
 
 // Where both ends of e lead to one result, that is it.
+#[tactic(auto, unfolding(crate::specs::ExpMinusOne::near_zero_of))]
 fn near_zero(x: f64, a: Correction) -> f64
     ensures { result ≡ near_zero_of x a }
 {
     let y = x - (a.low * (x * UP) - a.half);
     if y == x - (a.high * (x * DOWN) - a.half) {
-        return y;
+        y
+    } else {
+        x - fma_small_product(exact(x, a), x, -a.half)
     }
-    x - fma_small_product(exact(x, a), x, -a.half)
 }
 
 // The same at y = x + ln 2, where c is what y lost when it was rounded.
+#[tactic(auto, unfolding(crate::specs::ExpMinusOne::shifted_of))]
 fn shifted(y: f64, c: f64, a: Correction) -> f64
     ensures { result ≡ shifted_of y c a }
 {
     let r = halved(y, (a.low - c) * (y * UP) - c, a.half);
     if r == halved(y, (a.high - c) * (y * DOWN) - c, a.half) {
-        return r;
+        r
+    } else {
+        halved(y, fma_large_product(exact(y, a) - c, y, -c), a.half)
     }
-    halved(y, fma_large_product(exact(y, a) - c, y, -c), a.half)
 }
 
 // (y - (s - y^2 / 2)) / 2 - 1/2

@@ -43,44 +43,44 @@ const C4: f64 = 0.0416666808410674;
 const C5: f64 = 0.008333335853059549;
 
 // exp x: NaN at NaN alone, and never below 0.
+#[tactic(auto, using(crate::proofs::Numbers::ends_of_exp), unfolding(crate::specs::Exp::exp_of))]
 pub fn exp(x: f64) -> f64
     ensures { result ≡ exp_of x }
 {
     if x < HIGHEST {
-        return near(x);
+        near(x)
+    } else if x.is_nan() {
+        x
+    } else {
+        f64::INFINITY
     }
-    if x != x {
-        return x;
-    }
-    1.0 / 0.0
 }
 
 // exp x below that limit. For a k from -900 to 899 all numbers are normal, and 2^k goes into the
 // exponent of the table's entry at once. No such y is below 0; the test shows it.
+#[tactic(auto, using(crate::proofs::Numbers::sums_of_exp), unfolding(crate::specs::Exp::near_of))]
 fn near(x: f64) -> f64
     requires { is_nan x ≡ false }
     ensures { result ≡ near_of x }
 {
     let m = x * STEPS + SHIFT;
-    let n = f64::to_bits(m);
+    let n = m.to_bits();
     let whole = m - SHIFT;
     let r = whole * STEP_LO + (whole * STEP_HI + x);
     let e = elementary_tables::exp_row(n % 128);
     let t = series(r, e.tail);
     let k = n % 0x8_0000 / 128;
-    if n >= LEAST_SUM {
-        if n < END_OF_SUMS {
-            let h = f64::from_bits(e.head + k * EXPONENT - 1100 * EXPONENT);
-            let y = fma_small_product(h, t, h);
-            if y >= 0.0 {
-                return y;
-            }
-        }
+    if LEAST_SUM <= n && n < END_OF_SUMS {
+        let h = f64::from_bits(e.head + k * EXPONENT - 1100 * EXPONENT);
+        let y = fma_small_product(h, t, h);
+        if y >= 0.0 { y } else { far(x, e.head, t, k) }
+    } else {
+        far(x, e.head, t, k)
     }
-    far(x, e.head, t, k)
 }
 
 // exp r - 1, with tail added to its first term.
+#[tactic(auto, unfolding(crate::specs::Exp::series_of))]
 fn series(r: f64, tail: f64) -> f64
     ensures { result ≡ series_of r tail }
 {
@@ -90,6 +90,7 @@ fn series(r: f64, tail: f64) -> f64
 
 // exp x as h * (1 + t) * 2^(k - 1100), for the h of the pattern head. The last test shows at once
 // that no result is below 0 and none is NaN. No argument is known at which it gives 0; that is not proved.
+#[tactic(auto, using(float::proofs::Patterns::no_nan), unfolding(crate::specs::Exp::from0_of))]
 fn far(x: f64, head: u64, t: f64, k: u64) -> f64
     requires { head < 4611686018427387904 }
     ensures { result ≡ far_of x head t k }
@@ -99,13 +100,11 @@ fn far(x: f64, head: u64, t: f64, k: u64) -> f64
     }
     let h = f64::from_bits(head);
     let y = scaled(fma_small_product(h, t, h), k);
-    if y >= 0.0 {
-        return y;
-    }
-    0.0
+    if y >= 0.0 { y } else { 0.0 }
 }
 
 // 2^(n - 1023)
+#[tactic(auto, using(float::proofs::Patterns::no_nan), unfolding(crate::specs::Exp::power_of_two_of))]
 fn power_of_two(n: u64) -> f64
     requires { n < 2047 }
     ensures { result ≡ power_of_two_of n }
@@ -114,6 +113,7 @@ fn power_of_two(n: u64) -> f64
 }
 
 // y * 2^(k - 1100), by two factors that are normal numbers, so that the last product alone rounds.
+#[tactic(auto, unfolding(crate::specs::Exp::scaled_of))]
 fn scaled(y: f64, k: u64) -> f64
     ensures { result ≡ scaled_of y k }
 {

@@ -10,8 +10,6 @@ use crate::fma::fma_large_product;
 // Up to here either way x - x^2 / 2 is exact enough: 2^-29.
 const TINY: f64 = 1.862645149230957e-9;
 
-const LARGEST: f64 = 1.7976931348623157e308;
-
 // Between these 1 + x is taken as it is, with k = 0: about sqrt(1/2) - 1 and sqrt 2 - 1.
 const LOW: f64 = -0.2928934097290039;
 
@@ -47,58 +45,55 @@ const L1_ABOVE: f64 = 0.6666666666666736;
 
 // ln(1 + x): -infinity at -1, NaN below, and never below 0 for an x from 0 on. The last test never
 // gives 0; it shows that at once.
+#[tactic(auto, unfolding(crate::specs::LnOnePlus::ln_one_plus_of))]
 pub fn ln_1p(x: f64) -> f64
     ensures { result ≡ ln_one_plus_of x }
 {
     if x >= 0.0 {
         let y = from_zero(x);
-        if y < 0.0 {
-            return 0.0;
-        }
-        return y;
+        if y < 0.0 { 0.0 } else { y }
+    } else {
+        below_zero(x)
     }
-    below_zero(x)
 }
 
 // ln(1 + x) for an x from 0 on, before that test.
+#[tactic(auto, using(crate::proofs::LnRanges::from_0_ranges), unfolding(crate::specs::LnOnePlus::ln_one_plus_of_number))]
 fn from_zero(x: f64) -> f64
     requires { le plus_zero x ≡ true }
     ensures { result ≡ ln_one_plus_of_number x }
 {
     if x < HIGH {
-        if x < TINY {
-            return x - (x * x) * 0.5;
-        }
-        return near(x);
-    }
-    if x < HIGHER {
+        if x < TINY { x - (x * x) * 0.5 } else { near(x) }
+    } else if x < HIGHER {
         let u = x + 1.0;
-        return far(u * 0.5 - 1.0, 1.0, (x - (u - 1.0)) / u);
+        far(u * 0.5 - 1.0, 1.0, (x - (u - 1.0)) / u)
+    } else if x > f64::MAX {
+        x
+    } else {
+        anywhere(x)
     }
-    if x > LARGEST {
-        return x;
-    }
-    anywhere(x)
 }
 
 // The same for an x below 0, and for NaN.
+#[tactic(auto, using(crate::proofs::LnRanges::below_0_ranges), unfolding(crate::specs::LnOnePlus::ln_one_plus_of_number))]
 fn below_zero(x: f64) -> f64
     requires { le plus_zero x ≡ false }
     ensures { result ≡ ln_one_plus_of_number x }
 {
     if x > LOW {
         if x > -TINY {
-            return x - (x * x) * 0.5;
+            x - (x * x) * 0.5
+        } else {
+            near(x)
         }
-        return near(x);
+    } else if x > -1.0 {
+        anywhere(x)
+    } else if x == -1.0 {
+        f64::NEG_INFINITY
+    } else {
+        f64::NAN
     }
-    if x > -1.0 {
-        return anywhere(x);
-    }
-    if x == -1.0 {
-        return -1.0 / 0.0;
-    }
-    0.0 / 0.0
 }
 
 // 1 + x as (1 + f) * 2^k, with c for what 1 + x lost when it was rounded, relative to it.
@@ -110,6 +105,7 @@ pub struct Parts {
 }
 
 // These for any x above -1, by the bit pattern of 1 + x.
+#[tactic(auto, unfolding(crate::specs::LnOnePlus::reduced_of))]
 fn reduced(x: f64) -> Parts
     requires { is_nan x ≡ false }
     ensures { result ≡ reduced_of x }
@@ -117,7 +113,7 @@ fn reduced(x: f64) -> Parts
     let u = x + 1.0;
     let w = u - 1.0;
     let c = ((1.0 - (u - w)) + (x - w)) / u;
-    let v = f64::to_bits(u) % 0x8000_0000_0000_0000 + 0x0019_5f62_0000_0000;
+    let v = u.to_bits() % 0x8000_0000_0000_0000 + 0x0019_5f62_0000_0000;
     let f = f64::from_bits(v % 0x10_0000_0000_0000 + 0x3fe6_a09e_0000_0000) - 1.0;
     Parts {
         f,
@@ -137,6 +133,7 @@ pub struct Series {
     pub top: f64,
 }
 
+#[tactic(auto, unfolding(crate::specs::LnOnePlus::expansion_of))]
 fn expansion(f: f64) -> Series
     ensures { result ≡ expansion_of f }
 {
@@ -163,18 +160,21 @@ fn rest(a: Series, low: f64) -> f64
 
 // ln(1 + f). The first term and low are added with one rounding. Their sum lies between those with
 // the numbers beside L1, so where these two lead to one result, that is it.
+#[tactic(auto, using(crate::proofs::Numbers::zero_equal), unfolding(crate::specs::LnOnePlus::joined_of))]
 fn near(f: f64) -> f64
     ensures { result ≡ joined_of (record { f = f; k = plus_zero; c = plus_zero }) }
 {
     let a = expansion(f);
     let y = f - (a.half - rest(a, a.z * L1_BELOW + a.low));
     if y == f - (a.half - rest(a, a.z * L1_ABOVE + a.low)) {
-        return y;
+        y
+    } else {
+        f - (a.half - rest(a, fma_large_product(a.z, L1, a.low)))
     }
-    f - (a.half - rest(a, fma_large_product(a.z, L1, a.low)))
 }
 
 // k * ln 2 + ln(1 + f) + c in the same way.
+#[tactic(auto, unfolding(crate::specs::LnOnePlus::joined_of))]
 fn far(f: f64, k: f64, c: f64) -> f64
     requires { eq k plus_zero ≡ false }
     ensures { result ≡ joined_of (record { f = f; k = k; c = c }) }
@@ -184,9 +184,10 @@ fn far(f: f64, k: f64, c: f64) -> f64
     let lo = k * LN_2_LO + c;
     let y = hi - ((a.half - (rest(a, a.z * L1_BELOW + a.low) + lo)) - f);
     if y == hi - ((a.half - (rest(a, a.z * L1_ABOVE + a.low) + lo)) - f) {
-        return y;
+        y
+    } else {
+        hi - ((a.half - (rest(a, fma_large_product(a.z, L1, a.low)) + lo)) - f)
     }
-    hi - ((a.half - (rest(a, fma_large_product(a.z, L1, a.low)) + lo)) - f)
 }
 
 // ln(1 + x) for any x above -1. Where k is 0, c is left out: it is 0 there but for a number or two,
@@ -197,7 +198,8 @@ fn anywhere(x: f64) -> f64
 {
     let t = reduced(x);
     if t.k == 0.0 {
-        return near(t.f);
+        near(t.f)
+    } else {
+        far(t.f, t.k, t.c)
     }
-    far(t.f, t.k, t.c)
 }

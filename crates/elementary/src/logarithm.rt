@@ -9,11 +9,6 @@ use crate::fma::fma_small_product;
 use crate::ln_one_plus::ln_1p;
 use elementary_tables::LnRow;
 
-// The least normal f64, and the largest finite one.
-const LEAST_NORMAL: f64 = 2.2250738585072014e-308;
-
-const LARGEST: f64 = 1.7976931348623157e308;
-
 // From the first to the second the terms with k and c would only cancel.
 const BELOW_ONE: f64 = 0.9375;
 
@@ -42,39 +37,36 @@ const A3: f64 = 0.20000304511814496;
 const A4: f64 = -0.16667054827627667;
 
 // ln x: -infinity at 0, and NaN below 0. Numbers below 1 come first: they are asked for most.
+#[tactic(auto, using(crate::proofs::LnRanges::ln_ranges), unfolding(crate::specs::Ln::ln_of))]
 pub fn ln(x: f64) -> f64
     ensures { result ≡ ln_of x }
 {
     if x < BELOW_ONE {
-        if x >= LEAST_NORMAL {
-            return normal(x, 1023.0);
+        if x >= f64::MIN_POSITIVE {
+            normal(x, 1023.0)
+        } else if x > 0.0 {
+            normal(x * TO_NORMAL, 1075.0)
+        } else if x == 0.0 {
+            f64::NEG_INFINITY
+        } else {
+            f64::NAN
         }
+    } else if x < ABOVE_ONE {
+        ln_1p(x - 1.0)
+    } else if x <= f64::MAX {
+        normal(x, 1023.0)
     } else {
-        if x < ABOVE_ONE {
-            return ln_1p(x - 1.0);
-        }
-        if x <= LARGEST {
-            return normal(x, 1023.0);
-        }
+        x
     }
-    if x > LARGEST {
-        return x;
-    }
-    if x > 0.0 {
-        return normal(x * TO_NORMAL, 1075.0);
-    }
-    if x == 0.0 {
-        return -1.0 / 0.0;
-    }
-    0.0 / 0.0
 }
 
 // ln(x * 2^(1023 - bias)) for a normal x.
+#[tactic(auto, unfolding(crate::specs::Ln::normal_of))]
 fn normal(x: f64, bias: f64) -> f64
     requires { is_nan x ≡ false }
     ensures { result ≡ normal_of x bias }
 {
-    let n = f64::to_bits(x);
+    let n = x.to_bits();
     // the exponent and seven digits, which choose the row; from 48 on, 1.375, the 80 carry
     let first = n / 0x2000_0000_0000;
     let e = elementary_tables::ln_row(first % 128);
@@ -91,6 +83,7 @@ fn normal(x: f64, bias: f64) -> f64
 
 // m / c - 1 with one rounding, for an m that is t above the middle of its part: all but the last
 // product and sum are exact.
+#[tactic(auto, unfolding(crate::specs::Ln::ratio_of))]
 fn ratio(t: f64, e: LnRow) -> f64
     ensures { result ≡ ratio_of t e }
 {

@@ -6,3 +6,4 @@ pub mod Sums
 pub mod Turned
 pub mod Gap
 pub mod Examples
+pub mod Constants

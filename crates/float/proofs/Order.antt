@@ -1,7 +1,7 @@
 -- The order of all floats, NaN and the infinities included, as a program's tests say it (std's lemmas say the same of facts `T`); and which rounded
 -- sums are no NaN. Assumes nothing.
 use Rattle.std.proofs.Common.{◌≡◌, ℕ, zero, suc, ◌+◌, ◌-◌, ◌*◌, ◌^◌, Bool, true, false, cond, not, ◌&&◌, T, ltb, ◌⊎◌, ℤ, refl, inl, inr, ⊎_elim, add_comm, eq-eqb}
-use mathlib.Core.Bool.{beq, not-not}
+use mathlib.Core.Bool.{beq, not-not, false≢true}
 use lib.Ieee.{Float, nan, inf, fin, Format, prec, emax, low, binary64, up, down, odd, units, round, neg, sum, add, below, lt, eq, le, ne, is_nan}
 use lib.Ieee.Bits.{is_true, is_false}
 use lib.Ieee.Compare.{differs_from_itself}
@@ -32,6 +32,12 @@ ne_self x = rw (eq_self x) (not-not (is_nan x))
 -- the same, as the value that it tells
 pub nan_alone : (x : Float) → ne x x ≡ true → x ≡ nan
 nan_alone x h = differs_from_itself x (T_from_true _ h)
+
+pub is_nan_alone : (x : Float) → is_nan x ≡ true → x ≡ nan
+unfolding is_nan
+is_nan_alone nan h = refl
+is_nan_alone (inf s) h = absurd (false≢true h)
+is_nan_alone (fin s m e) h = absurd (false≢true h)
 
 -- ---- below
 -- a NaN is below nothing
@@ -97,9 +103,12 @@ lt_not_eq x y h = (refuted (eq x y) (λ e. clash (eq_neither x y e).0 h), refute
 pub lt_not_le : (x y : Float) → lt x y ≡ true → le y x ≡ false
 lt_not_le x y h = refuted (le y x) (λ k. clash (le_not_lt y x k) h)
 
--- of two numbers, where the one is not below the other, the other is below or equal
+-- of two numbers, where the one is not below the other, the other is below or equal; and where it is not below or equal, the other is below
 pub not_lt_le : (x y : Float) → is_nan x ≡ false → is_nan y ≡ false → lt x y ≡ false → le y x ≡ true
 not_lt_le x y p q h = is_true _ (float.le_of_not-lt x y (T_from_false _ p) (T_from_false _ q) (T_from_false _ h))
+
+pub not_le_lt : (x y : Float) → is_nan x ≡ false → is_nan y ≡ false → le x y ≡ false → lt y x ≡ true
+not_le_lt x y p q h = is_true _ (float.lt_of_not-le x y (T_from_false _ p) (T_from_false _ q) (T_from_false _ h))
 
 -- what is equal to something below is below
 pub eq_lt : (x y z : Float) → eq x y ≡ true → lt y z ≡ true → lt x z ≡ true

@@ -14,6 +14,3 @@ without-c t h = rw (zero_equal, h)
 
 pub returns-then-t : goal.returns-then-t
 returns-then-t c = c.near.ensures ∙ without-c _ c.if-t.true ∙ ap joined_of c.reduced-t.ensures
-
-pub returns : goal.returns
-returns c = c.far.ensures ∙ ap joined_of c.reduced-t.ensures
