@@ -1,5 +1,5 @@
 -- The sum of four lanes, run with the lane to start from moved to the front, is the sum of the list. Assumes nothing.
-use mathlib.Core.Path.{◌≡◌, refl, sym}
+use mathlib.Core.Path.{◌≡◌, refl, sym, ap, ◌∙◌}
 use mathlib.Core.Bool.{true, false}
 use mathlib.Core.List.{List, [], ◌∷◌}
 use native.Mathlib.Omega.{arith}
@@ -50,15 +50,18 @@ from_start a b c d =
     (λ q. test (lt d c) (λ r. rw (p, q, r)) (λ r. rw (p, q, r)))
     (λ q. test (lt d (least_of a)) (λ r. rw (p, q, r)) (λ r. rw (p, q, r)))))
 
-pub four_lanes : (a b c d : Float) → ln_sum_exp_lanes a b c d ≡ ln_sum_exp_array (a ∷ b ∷ c ∷ d ∷ [])
+four_lanes : (a b c d : Float) → ln_sum_exp_lanes a b c d ≡ ln_sum_exp_array (a ∷ b ∷ c ∷ d ∷ [])
 unfolding ln_sum_exp_array
 four_lanes a b c d = test (all_ln_zero (a ∷ b ∷ c ∷ d ∷ [])) (λ z. rw z (all_zeros a b c d z)) (λ z. rw z (sym (from_start a b c d)))
 
 -- a list of four is its lanes
-pub four_of : (xs : List Float) → length xs ≡ 4 → xs ≡ get_or xs 0 nan ∷ get_or xs 1 nan ∷ get_or xs 2 nan ∷ get_or xs 3 nan ∷ []
+four_of : (xs : List Float) → length xs ≡ 4 → xs ≡ get_or xs 0 nan ∷ get_or xs 1 nan ∷ get_or xs 2 nan ∷ get_or xs 3 nan ∷ []
 four_of [] h = absurd (omega arith)
 four_of (a ∷ []) h = absurd (omega arith)
 four_of (a ∷ b ∷ []) h = absurd (omega arith)
 four_of (a ∷ b ∷ c ∷ []) h = absurd (omega arith)
 four_of (a ∷ b ∷ c ∷ d ∷ []) h = refl
 four_of (a ∷ b ∷ c ∷ d ∷ e ∷ xs) h = absurd (omega arith)
+
+pub array_of_four : (xs : List Float) → length xs ≡ 4 → ln_sum_exp_array xs ≡ ln_sum_exp_lanes (get_or xs 0 nan) (get_or xs 1 nan) (get_or xs 2 nan) (get_or xs 3 nan)
+array_of_four xs n = ap ln_sum_exp_array (four_of xs n) ∙ sym (four_lanes _ _ _ _)

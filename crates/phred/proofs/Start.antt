@@ -4,15 +4,17 @@ use mathlib.Core.Bool.{Bool, true, false, true≢false}
 use mathlib.Core.Logic.{◌⊎◌, inl, inr, ⊎_elim}
 use mathlib.Core.List.{List, [], ◌∷◌}
 use Prim.Native.Nat.{ℕ, suc, ◌+◌, ◌≤◌, ◌<◌}
-use native.Mathlib.Nat.{not-suc-le-zero, le_of_suc-le-suc, eq-or-lt_of_le, zero-add}
+use native.Mathlib.Nat.{not-suc-le-zero, eq-or-lt_of_le, zero-add}
 use native.Mathlib.Omega.{arith}
 use lib.Dec.{ltb}
 use lib.ListN.{length, get_or, get_or-eq_default}
+use borrow.Author.Count.{below_more}
 use borrow.Author.Tests.{ltb-true, ltb-false}
 use lib.Ieee.{Float, nan, inf, fin, lt, eq, div, of_bits}
 use Rattle.float.specs.Ops.{plus_infinity}
 use Rattle.std.specs.Prelude.{if◌then◌else◌}
 use Rattle.words.proofs.Cases.{test, clash, refuted}
+use Rattle.float.proofs.Constants.{minus_infinity}
 use Rattle.float.proofs.Order.{nan_not_lt, lt_trans, lt_irrefl, lt_numbers, le_or, not_lt_le, eq_lt}
 use Rattle.phred.specs.declared.Lowest.{Lowest}
 use Rattle.phred.specs.Phred.{all_ln_zero, lower_of, lowest_from, start_lane}
@@ -56,20 +58,17 @@ module _ (g : ℕ → Float) where
   under_infinity : (l : Lowest) (i : ℕ) (x : Float) → Seen l i → lt x l.value ≡ true → lt x plus_infinity ≡ true
   under_infinity l i x s h = below_infinity x l.value h
 
-  last : (i : ℕ) (P : ℕ → Type 0) → ((j : ℕ) → j < i → P j) → P i → (j : ℕ) → j < suc i → P j
-  last i P h p j k = ⊎_elim (λ e. subst P (sym e) p) (λ w. h j w) (eq-or-lt_of_le (le_of_suc-le-suc k))
-
-  take_over : (l : Lowest) (i : ℕ) → Seen l i → lt (g i) l.value ≡ true → Seen (record { place = i; value = g i }) (suc i)
+  take_over : (l : Lowest) (i : ℕ) → Seen l i → lt (g i) l.value ≡ true → Seen (record { place = i; value = g i }) (i + 1)
   take_over l i s h =
       record {
-        none = last i (λ j. lt (g j) (g i) ≡ false) (λ j k. refuted (lt (g j) (g i)) (λ t. clash (s.none j k) (lt_trans (g j) (g i) l.value t h))) (lt_irrefl (g i));
+        none = below_more (λ j. lt (g j) (g i) ≡ false) i (λ j k. refuted (lt (g j) (g i)) (λ t. clash (s.none j k) (lt_trans (g j) (g i) l.value t h))) (lt_irrefl (g i));
         found = inr (omega arith, refl, under_infinity l i (g i) s h, λ j k. refuted (eq (g j) (g i)) (λ t. clash (s.none j k) (eq_lt (g j) (g i) l.value t h)));
       }
 
-  stay : (l : Lowest) (i : ℕ) → Seen l i → lt (g i) l.value ≡ false → Seen l (suc i)
+  stay : (l : Lowest) (i : ℕ) → Seen l i → lt (g i) l.value ≡ false → Seen l (i + 1)
   stay l i s h =
       record {
-        none = last i (λ j. lt (g j) l.value ≡ false) s.none h;
+        none = below_more (λ j. lt (g j) l.value ≡ false) i s.none h;
         found = ⊎_elim (λ w. inl w) (λ w. inr (omega (arith, w.0), w.1, w.2, w.3)) s.found;
       }
 
@@ -77,18 +76,18 @@ module _ (g : ℕ → Float) where
   unfolding lowest_from
   walk [] l i h s = let e : i ≡ i + 0 = omega arith in subst (λ (n : ℕ). Seen l n) e s
   walk (x ∷ xs) l i h s =
-      let e : suc i + length xs ≡ i + suc (length xs) = omega arith in
+      let e : i + 1 + length xs ≡ i + suc (length xs) = omega arith in
       let e0 : i + 0 ≡ i = omega arith in
       let x-is : x ≡ g i = h 0 ∙ ap g e0 in
-      let after : (k : ℕ) → get_or xs k nan ≡ g (suc i + k) = λ k. h (suc k) ∙ ap g (shift i k) in
-      subst (λ (n : ℕ). Seen (lowest_from (lower_of l i x) (suc i) xs) n) e
-      (walk xs (lower_of l i x) (suc i) after
+      let after : (k : ℕ) → get_or xs k nan ≡ g (i + 1 + k) = λ k. h (suc k) ∙ ap g (shift i k) in
+      subst (λ (n : ℕ). Seen (lowest_from (lower_of l i x) (i + 1) xs) n) e
+      (walk xs (lower_of l i x) (i + 1) after
       (⊎_elim
       (λ w. rw (w.1, x-is) (take_over l i s (sym (ap (λ y. lt y l.value) x-is) ∙ w.0)))
       (λ w. rw w.1 (stay l i s (sym (ap (λ y. lt y l.value) x-is) ∙ w.0)))
       (lower-case l i x)))
     where
-      shift : (i k : ℕ) → i + suc k ≡ suc i + k
+      shift : (i k : ℕ) → i + suc k ≡ i + 1 + k
       shift i k = omega arith
 
 -- before the first lane
@@ -145,3 +144,6 @@ pub start_inside : (xs : List Float) → all_ln_zero xs ≡ false → (start_lan
 unfolding all_ln_zero
 start_inside [] h = absurd (true≢false h)
 start_inside (x ∷ xs) h = ⊎_elim (λ w. rw w.1 (omega arith)) (λ w. w.0) (seen (x ∷ xs)).found
+
+-- what `ln_sum_exp_array` needs beside its definition
+pub ruleset ends = (start_inside, minus_infinity)

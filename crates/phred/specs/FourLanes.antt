@@ -1,4 +1,4 @@
--- As it is run; `four_lanes` (phred/proofs/FourLanes) joins it to `ln_sum_exp_array`: the lane to start from is moved to the front as the lanes are met.
+-- As it is run; `array_of_four` (phred/proofs/FourLanes) joins it to `ln_sum_exp_array`: the lane to start from is moved to the front as the lanes are met.
 use Rattle.std.specs.Prelude.{Float}
 use Rattle.std.specs.Float.Ieee.{lt}
 use Rattle.float.specs.Ops.{plus_infinity}

@@ -1,6 +1,7 @@
 -- Phred levels and natural logarithms of probabilities: what each function of phred.rs gives, in its order. A level is a whole number, a logarithm
 -- an f64.
-use Rattle.std.specs.Prelude.{ℕ, suc, ◌+◌, min, max, Bool, true, ◌&&◌, List, [], ◌∷◌, ◌++◌, get_or, take, drop, Float}
+use Rattle.std.specs.Prelude.{ℕ, ◌+◌, min, max, Bool, List, ◌++◌, fold, get_or, take, drop, Float}
+use Rattle.std.specs.List.{list_all, enumerate_from}
 use Rattle.std.specs.Float.{nan}
 use Rattle.std.specs.Float.Ieee.{lt, le, eq, neg, is_nan}
 use Rattle.float.specs.Ops.{◌⊕◌, ◌⊖◌, ◌⊗◌, ◌⊘◌, bits, whole, plus_zero, one, six, epsilon, plus_infinity}
@@ -133,8 +134,7 @@ ln_error_prob_two_trials p q =
 
 -- every lane is -infinity, which holds where there is none
 unfoldable pub all_ln_zero : List Float → Bool
-all_ln_zero [] = true
-all_ln_zero (x ∷ xs) = eq x ln_zero && all_ln_zero xs
+all_ln_zero xs = list_all (λ x. eq x ln_zero) xs
 
 -- the lowest lane after one more, whose place is i
 unfoldable pub lower_of : Lowest → ℕ → Float → Lowest
@@ -144,8 +144,7 @@ lower_of l i x =
 
 -- the lowest lane after those from place i on
 unfoldable pub lowest_from : Lowest → ℕ → List Float → Lowest
-lowest_from l i [] = l
-lowest_from l i (x ∷ xs) = lowest_from (lower_of l i x) (suc i) xs
+lowest_from l i xs = fold (λ m p. lower_of m p.0 p.1) l (enumerate_from i xs)
 
 -- the lane that a sum starts from: the lowest, the first of several, and lane 0 if none is below +infinity
 unfoldable pub start_lane : List Float → Lowest
@@ -153,8 +152,7 @@ start_lane xs = lowest_from (record { place = 0; value = plus_infinity }) 0 xs
 
 -- ln(exp x + exp y + ..), folded in the list's order
 unfoldable pub ln_sum_exp_fold : Float → List Float → Float
-ln_sum_exp_fold x [] = x
-ln_sum_exp_fold x (y ∷ ys) = ln_sum_exp_fold (ln_sum_exp x y) ys
+ln_sum_exp_fold x ys = fold ln_sum_exp x ys
 
 -- the lane k with the others folded in, in lane order
 unfoldable pub ln_sum_exp_from : List Float → ℕ → Float

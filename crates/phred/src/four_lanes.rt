@@ -23,54 +23,57 @@ pub struct FirstThree {
     pub last: f64,
 }
 
+#[tactic(auto, unfolding(crate::specs::FourLanes::first_two))]
 fn first_two(a: f64, b: f64) -> FirstTwo
     ensures { result ≡ first_two a b }
 {
     let least = least_of(a);
     if b < least {
-        return FirstTwo {
+        FirstTwo {
             least: b,
             start: b,
             next: a,
-        };
-    }
-    FirstTwo {
-        least,
-        start: a,
-        next: b,
+        }
+    } else {
+        FirstTwo {
+            least,
+            start: a,
+            next: b,
+        }
     }
 }
 
 // What a lane must be below to be lower than lane 0: lane 0, or +infinity where it is NaN.
+#[tactic(auto, using(float::proofs::Constants::constants), unfolding(crate::specs::FourLanes::least_of))]
 fn least_of(a: f64) -> f64
     ensures { result ≡ least_of a }
 {
-    if a < 1.0 / 0.0 {
-        return a;
-    }
-    1.0 / 0.0
+    if a < f64::INFINITY { a } else { f64::INFINITY }
 }
 
+#[tactic(auto, unfolding(crate::specs::FourLanes::first_three))]
 fn first_three(two: FirstTwo, a: f64, b: f64, c: f64) -> FirstThree
     ensures { result ≡ first_three two a b c }
 {
     if c < two.least {
-        return FirstThree {
+        FirstThree {
             least: c,
             start: c,
             next: a,
             last: b,
-        };
-    }
-    FirstThree {
-        least: two.least,
-        start: two.start,
-        next: two.next,
-        last: c,
+        }
+    } else {
+        FirstThree {
+            least: two.least,
+            start: two.start,
+            next: two.next,
+            last: c,
+        }
     }
 }
 
 // in this order
+#[tactic(auto, unfolding(crate::specs::FourLanes::ln_sum_exp_four))]
 fn ln_sum_exp_four(a: f64, b: f64, c: f64, d: f64) -> f64
     ensures { result ≡ ln_sum_exp_four a b c d }
 {
@@ -78,16 +81,15 @@ fn ln_sum_exp_four(a: f64, b: f64, c: f64, d: f64) -> f64
 }
 
 // The logarithm of the sum of four exponentials.
+#[tactic(auto, using(crate::proofs::FourLanes::array_of_four), unfolding(crate::specs::FourLanes::ln_sum_exp_lanes))]
 pub fn ln_sum_exp_lanes(values: [f64; 4]) -> LogProbability
     ensures { result.0 ≡ ln_sum_exp_array values }
 {
-    let a = values[0];
-    let b = values[1];
-    let c = values[2];
-    let d = values[3];
+    let [a, b, c, d] = values;
     let three = first_three(first_two(a, b), a, b, c);
-    if d < three.least {
-        return LogProbability(ln_sum_exp_four(d, a, b, c));
-    }
-    LogProbability(ln_sum_exp_four(three.start, three.next, three.last, d))
+    LogProbability(if d < three.least {
+        ln_sum_exp_four(d, a, b, c)
+    } else {
+        ln_sum_exp_four(three.start, three.next, three.last, d)
+    })
 }

@@ -4,7 +4,8 @@
 #![tactic(auto)]
 
 ghost use Rattle.std.specs.Prelude.{◌≡◌, ◌<◌, length};
-ghost use Rattle.phred.specs.Phred.{phred_to_ln_error_prob, phred_to_ln_correct_prob, clamped, ln_prob_to_phred, log1pexp_of, ln_one_minus_exp, ln_a_minus_b, two_trials, ln_error_prob_two_trials, ln_sum_exp, all_ln_zero, lower_of, start_lane, ln_sum_exp_fold, ln_sum_exp_from, ln_sum_exp_array, ln_normalize, ln_not};
+ghost use Rattle.std.specs.Float.Ieee.{eq};
+ghost use Rattle.phred.specs.Phred.{phred_to_ln_error_prob, phred_to_ln_correct_prob, ln_prob_to_phred, log1pexp_of, ln_one_minus_exp, ln_a_minus_b, two_trials, ln_error_prob_two_trials, ln_zero, ln_sum_exp, all_ln_zero, lower_of, lowest_from, start_lane, ln_sum_exp_fold, ln_sum_exp_from, ln_sum_exp_array, ln_normalize, ln_not};
 
 mod four_lanes;
 
@@ -41,14 +42,15 @@ const PHRED_PRECISION: f64 = 0.001;
 const MAX_PHRED_AS_LN_ERROR: f64 = -(MAX_PHRED as f64) * LN_10 / 10.0;
 
 // A level. A type of its own, so that none can stand where a logarithm is expected.
-#[derive(Clone, Copy)]
+#[derive(Clone, Copy, Debug, PartialEq, Eq, PartialOrd, Ord, Hash)]
 pub struct PhredScore(pub u8);
 
 // The natural logarithm of a probability.
-#[derive(Clone, Copy)]
+#[derive(Clone, Copy, Debug, PartialEq, PartialOrd)]
 pub struct LogProbability(pub f64);
 
 // The logarithm of the error at a level: 10^(-q/10).
+#[tactic(auto, unfolding(crate::specs::Phred::phred_to_ln_error_prob))]
 pub fn phred_to_ln_error_prob(phred: PhredScore) -> LogProbability
     ensures { result.0 ≡ phred_to_ln_error_prob phred.0 }
 {
@@ -56,6 +58,7 @@ pub fn phred_to_ln_error_prob(phred: PhredScore) -> LogProbability
 }
 
 // The logarithm of being right at a level.
+#[tactic(auto, unfolding(crate::specs::Phred::phred_to_ln_correct_prob))]
 pub fn phred_to_ln_correct_prob(phred: PhredScore) -> LogProbability
     ensures { result.0 ≡ phred_to_ln_correct_prob phred.0 }
 {
@@ -63,75 +66,65 @@ pub fn phred_to_ln_correct_prob(phred: PhredScore) -> LogProbability
 }
 
 // The level of an error's logarithm, from 2 to 93.
+#[tactic(auto, unfolding(crate::specs::Phred::ln_prob_to_phred))]
 pub fn ln_prob_to_phred(ln_prob: LogProbability) -> PhredScore
     ensures { result.0 ≡ ln_prob_to_phred ln_prob.0 }
 {
     let p = ln_prob.0;
-    if p < MAX_PHRED_AS_LN_ERROR {
-        return PhredScore(MAX_PHRED);
-    }
-    if float::is_nan(p) {
-        return PhredScore(MIN_PHRED);
-    }
-    PhredScore(clamp(float::floor_to_u64(-10.0 * p / LN_10 + PHRED_PRECISION)))
-}
-
-// n, clamped to the levels of a call.
-fn clamp(n: u64) -> u8
-    ensures { result ≡ clamped n }
-{
-    if n < 2 {
-        return MIN_PHRED;
-    }
-    if 93 < n {
-        return MAX_PHRED;
-    }
-    n as u8
+    PhredScore(if p < MAX_PHRED_AS_LN_ERROR {
+        MAX_PHRED
+    } else if p.is_nan() {
+        MIN_PHRED
+    } else {
+        let level = float::floor_to_u64(-10.0 * p / LN_10 + PHRED_PRECISION);
+        (level.min(u64::from(MAX_PHRED)) as u8).max(MIN_PHRED)
+    })
 }
 
 // ln(1 + exp x), equation (10)
+#[tactic(auto, unfolding(crate::specs::Phred::log1pexp_of))]
 pub fn log1pexp(x: f64) -> f64
     ensures { result ≡ log1pexp_of x }
 {
     if x <= -37.0 {
-        return elementary::exp(x);
+        elementary::exp(x)
+    } else if x <= 18.0 {
+        elementary::ln_1p(elementary::exp(x))
+    } else if x <= 33.3 {
+        x + elementary::exp(-x)
+    } else {
+        x
     }
-    if x <= 18.0 {
-        return elementary::ln_1p(elementary::exp(x));
-    }
-    if x <= 33.3 {
-        return x + elementary::exp(-x);
-    }
-    x
 }
 
 // ln(1 - exp x), equation (7)
+#[tactic(auto, using(float::proofs::Constants::constants), unfolding(crate::specs::Phred::ln_one_minus_exp))]
 pub fn ln_one_minus_exp(x: f64) -> f64
     ensures { result ≡ ln_one_minus_exp x }
 {
     if x >= 0.0 {
-        return -1.0 / 0.0;
+        f64::NEG_INFINITY
+    } else if x >= -LN_TWO {
+        elementary::ln(-elementary::exp_m1(x))
+    } else {
+        elementary::ln_1p(-elementary::exp(x))
     }
-    if x >= -LN_TWO {
-        return elementary::ln(-elementary::exp_m1(x));
-    }
-    elementary::ln_1p(-elementary::exp(x))
 }
 
 // ln(exp a - exp b); NaN where b is above a by more than rounding.
+#[tactic(auto, using(float::proofs::Constants::constants), unfolding(crate::specs::Phred::ln_a_minus_b))]
 pub fn ln_a_minus_b(a: f64, b: f64) -> f64
     ensures { result ≡ ln_a_minus_b a b }
 {
-    if b == -1.0 / 0.0 {
-        return a;
+    if b == f64::NEG_INFINITY {
+        a
+    } else if float::abs(a - b) < f64::EPSILON {
+        f64::NEG_INFINITY
+    } else if a < b {
+        f64::NAN
+    } else {
+        a + ln_one_minus_exp(b - a)
     }
-    if float::abs(a - b) < float::EPSILON {
-        return -1.0 / 0.0;
-    }
-    if a < b {
-        return 0.0 / 0.0;
-    }
-    a + ln_one_minus_exp(b - a)
 }
 
 // The logarithm of an error in either of two trials, or in both unless they agree: with the
@@ -143,16 +136,19 @@ pub fn ln_error_prob_two_trials(ln_p1: LogProbability, ln_p2: LogProbability) ->
 }
 
 // The same on plain numbers: a struct that is returned goes through memory.
+#[tactic(auto, unfolding(crate::specs::Phred::ln_error_prob_two_trials))]
 fn two_trials_any_order(p: f64, q: f64) -> f64
     ensures { result ≡ ln_error_prob_two_trials p q }
 {
     if p < q {
-        return two_trials(q, p);
+        two_trials(q, p)
+    } else {
+        two_trials(p, q)
     }
-    two_trials(p, q)
 }
 
 // The same, the larger logarithm first. Where it is 6 or more above the other, it is the answer.
+#[tactic(auto, unfolding(crate::specs::Phred::two_trials))]
 fn two_trials(larger: f64, smaller: f64) -> f64
     ensures { result ≡ two_trials larger smaller }
 {
@@ -172,33 +168,34 @@ pub fn ln_sum_exp(ln_a: LogProbability, ln_b: LogProbability) -> LogProbability
 }
 
 // The same on plain numbers.
+#[tactic(auto, using(float::proofs::Constants::constants), unfolding(crate::specs::Phred::ln_sum_exp, crate::specs::Phred::ln_sum_exp_general))]
 fn ln_sum_exp_f64(a: f64, b: f64) -> f64
     ensures { result ≡ ln_sum_exp a b }
 {
-    if a == -1.0 / 0.0 {
-        return b;
+    if a == f64::NEG_INFINITY {
+        b
+    } else if b == f64::NEG_INFINITY {
+        a
+    } else if a == b {
+        a + LOG1PEXP_ZERO
+    } else if b < a {
+        b + log1pexp(a - b)
+    } else {
+        a + log1pexp(b - a)
     }
-    if b == -1.0 / 0.0 {
-        return a;
-    }
-    if a == b {
-        return a + LOG1PEXP_ZERO;
-    }
-    if b < a {
-        return b + log1pexp(a - b);
-    }
-    a + log1pexp(b - a)
 }
 
 // The logarithm of the sum of all exponentials: from the lowest lane on, the others folded into it
 // in their order. A lane of -infinity adds nothing.
+#[tactic(auto, using(crate::proofs::Start::ends), unfolding(crate::specs::Phred::ln_sum_exp_array))]
 pub fn ln_sum_exp_array(values: &[f64]) -> LogProbability
     ensures { result.0 ≡ ln_sum_exp_array values.now }
 {
-    if all_ln_zero(values) {
-        return LogProbability(-1.0 / 0.0);
-    }
-    LogProbability(ln_sum_exp_from(values, start_lane(values).place))
+    LogProbability(if all_ln_zero(values) {
+        f64::NEG_INFINITY
+    } else {
+        ln_sum_exp_from(values, start_lane(values).place)
+    })
 }
 
 // The lane start, then those before it, then those after it.
@@ -210,18 +207,20 @@ fn ln_sum_exp_from(values: &[f64], start: usize) -> f64
     ln_sum_exp_fold(before, &values[start + 1..])
 }
 
+// Whether x is the logarithm of 0.
+#[tactic(auto, using(float::proofs::Constants::minus_infinity))]
+fn is_ln_zero(x: f64) -> bool
+    ensures { result ≡ eq x ln_zero }
+{
+    x == f64::NEG_INFINITY
+}
+
 // Whether every lane is -infinity, which holds where there is none.
+#[tactic(auto, unfolding(crate::specs::Phred::all_ln_zero))]
 fn all_ln_zero(values: &[f64]) -> bool
     ensures { result ≡ all_ln_zero values.now }
 {
-    let mut i = 0;
-    while i < values.len() {
-        if values[i] != -1.0 / 0.0 {
-            return false;
-        }
-        i += 1;
-    }
-    true
+    values.iter().all(|&x| is_ln_zero(x))
 }
 
 // The lowest lane so far, by its place and its value.
@@ -231,44 +230,51 @@ pub struct Lowest {
     pub value: f64,
 }
 
+#[tactic(auto, using(float::proofs::Constants::constants), unfolding(crate::specs::Phred::start_lane))]
 fn start_lane(values: &[f64]) -> Lowest
     ensures { result ≡ start_lane values.now }
 {
-    let mut least = Lowest {
+    let none = Lowest {
         place: 0,
-        value: 1.0 / 0.0,
+        value: f64::INFINITY,
     };
-    let mut i = 0;
-    while i < values.len() {
-        least = lower(least, i, values[i]);
-        i += 1;
-    }
-    least
+    lowest_from(none, values)
 }
 
+#[tactic(auto, unfolding(crate::specs::Phred::lowest_from))]
+fn lowest_from(none: Lowest, values: &[f64]) -> Lowest
+    ensures { result ≡ lowest_from none 0 values.now }
+{
+    values
+        .iter()
+        .copied()
+        .enumerate()
+        .fold(none, |least, (i, value)| lower(least, i, value))
+}
+
+#[tactic(auto, unfolding(crate::specs::Phred::lower_of))]
 fn lower(least: Lowest, i: usize, value: f64) -> Lowest
     ensures { result ≡ lower_of least i value }
 {
     if value < least.value {
-        return Lowest { place: i, value };
+        Lowest { place: i, value }
+    } else {
+        least
     }
-    least
 }
 
 // first and all of the values, in their order
+#[tactic(auto, unfolding(crate::specs::Phred::ln_sum_exp_fold))]
 fn ln_sum_exp_fold(first: f64, values: &[f64]) -> f64
     ensures { result ≡ ln_sum_exp_fold first values.now }
 {
-    let mut total = first;
-    let mut i = 0;
-    while i < values.len() {
-        total = ln_sum_exp_f64(total, values[i]);
-        i += 1;
-    }
-    total
+    values
+        .iter()
+        .fold(first, |total, &x| ln_sum_exp_f64(total, x))
 }
 
 // The logarithm of a quotient.
+#[tactic(auto, unfolding(crate::specs::Phred::ln_normalize))]
 pub fn ln_normalize(ln_value: LogProbability, ln_norm: LogProbability) -> LogProbability
     ensures { result.0 ≡ ln_normalize ln_value.0 ln_norm.0 }
 {
@@ -276,6 +282,7 @@ pub fn ln_normalize(ln_value: LogProbability, ln_norm: LogProbability) -> LogPro
 }
 
 // The logarithm of the complement.
+#[tactic(auto, unfolding(crate::specs::Phred::ln_not))]
 pub fn ln_not(x: LogProbability) -> LogProbability
     ensures { result.0 ≡ ln_not x.0 }
 {
