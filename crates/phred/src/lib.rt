@@ -10,11 +10,10 @@ ghost use Rattle.phred.specs.Phred.{phred_to_ln_error_prob, phred_to_ln_correct_
 mod four_lanes;
 
 pub use four_lanes::ln_sum_exp_lanes;
+use std::f64::consts::LN_10;
 
-// ln 10 and ln 2
-const LN_10: f64 = 2.302585092994046;
-
-pub const LN_TWO: f64 = 0.6931471805599453;
+// ln 2
+pub const LN_TWO: f64 = std::f64::consts::LN_2;
 
 // log1pexp(0), which ln_sum_exp adds where both operands are equal
 const LOG1PEXP_ZERO: f64 = LN_TWO;
@@ -28,9 +27,9 @@ pub const LN_ONE: f64 = 0.0;
 // The least level of a call, and the base of a no-call in either case.
 pub const MIN_PHRED: u8 = 2;
 
-pub const NO_CALL_BASE: u8 = 78;
+pub const NO_CALL_BASE: u8 = b'N';
 
-pub const NO_CALL_BASE_LOWER: u8 = 110;
+pub const NO_CALL_BASE_LOWER: u8 = b'n';
 
 // The highest level, as SAM has it.
 pub const MAX_PHRED: u8 = 93;
