@@ -10,6 +10,9 @@ use lib.ListN.{length, get_or, take, drop}
 use lib.Ieee.{Float, nan, binary64, fits, lt, le, eq, neg, div, of_bits, is_nan}
 use lib.Ieee.Fits.{add-fits, sub-fits}
 use Rattle.float.specs.Ops.{◌⊕◌, ◌⊖◌, plus_zero}
+use native.Mathlib.Omega.{arith}
+use Rattle.std.specs.Prelude.{All}
+use Rattle.std.proofs.lemmas.List.Elements.{All-from_get_or, All-append, All-take, All-drop}
 use Rattle.words.proofs.Cases.{test, clash, choice, both}
 use Rattle.float.proofs.Order.{ne_self, lt_trans, lt-le, le_numbers, not_lt_le}
 use Rattle.float.proofs.Sums.{add_not_below, add_not_minus_infinity}
@@ -84,38 +87,17 @@ sum_fits a b f g =
     (λ _. choice F64 (eq a b) _ _ (λ _. add-fits binary64 a log1pexp_zero)
     (λ _. choice F64 (lt b a) _ _ (λ _. add-fits binary64 b _) (λ _. add-fits binary64 a _))))
 
--- every lane is an f64
-abbrev Lanes : List Float → Type 0
-Lanes [] = Unit {0}
-Lanes (x ∷ xs) = T (fits binary64 x) × Lanes xs
-
-lanes : (xs : List Float) → ((j : ℕ) → T (fits binary64 (get_or xs j nan))) → Lanes xs
-lanes [] h = tt
-lanes (x ∷ xs) h = (h 0, lanes xs (λ j. h (suc j)))
-
-lanes_take : (k : ℕ) (xs : List Float) → Lanes xs → Lanes (take k xs)
-lanes_take zero xs h = tt
-lanes_take (suc k) [] h = tt
-lanes_take (suc k) (x ∷ xs) h = (h.0, lanes_take k xs h.1)
-
-lanes_drop : (k : ℕ) (xs : List Float) → Lanes xs → Lanes (drop k xs)
-lanes_drop zero xs h = h
-lanes_drop (suc k) [] h = tt
-lanes_drop (suc k) (x ∷ xs) h = lanes_drop k xs h.1
-
-lanes_append : (xs ys : List Float) → Lanes xs → Lanes ys → Lanes (xs ++ ys)
-lanes_append [] ys h k = k
-lanes_append (x ∷ xs) ys h k = (h.0, lanes_append xs ys h.1 k)
-
 -- a sum that is 0 has nothing but zeros in it
-sums_none : (t : Float) (xs : List Float) → T (fits binary64 t) → Lanes xs → eq (ln_sum_exp_fold t xs) ln_zero ≡ true → (eq t ln_zero ≡ true) × (all_ln_zero xs ≡ true)
+sums_none : (t : Float) (xs : List Float) → T (fits binary64 t) → All F64 xs → eq (ln_sum_exp_fold t xs) ln_zero ≡ true → (eq t ln_zero ≡ true) × (all_ln_zero xs ≡ true)
 unfolding ln_sum_exp_fold all_ln_zero
 sums_none t [] f l h = (h, refl)
 sums_none t (x ∷ xs) f l h =
-    let r = sums_none (ln_sum_exp t x) xs (sum_fits t x f l.0) l.1 h in
+    let first : F64 x = l 0 nan (omega arith) in
+    let rest : All F64 xs = λ k d in'. l (suc k) d (omega arith) in
+    let r = sums_none (ln_sum_exp t x) xs (sum_fits t x f first) rest h in
     test (eq t ln_zero)
     (λ z. (z, rw (sym (ap (λ y. eq y ln_zero) (sum_none t x z)) ∙ r.0) r.1))
-    (λ s. clash (sum_some t x f l.0 s) r.0)
+    (λ s. clash (sum_some t x f first s) r.0)
 
 -- a lane that is 0 among others that are
 zeros_join : (k : ℕ) (xs : List Float) → k < length xs → all_ln_zero (take k xs ++ drop (k + 1) xs) ≡ true → eq (get_or xs k nan) ln_zero ≡ true → all_ln_zero xs ≡ true
@@ -133,8 +115,8 @@ array_none xs f h =
     test (all_ln_zero xs) (λ z. z)
     (λ s.
     let k = (start_lane xs).place in
-    let l = lanes xs f in
-    let r = sums_none (get_or xs k nan) (take k xs ++ drop (k + 1) xs) (f k) (lanes_append (take k xs) (drop (k + 1) xs) (lanes_take k xs l) (lanes_drop (k + 1) xs l)) (rw s at h) in
+    let l = All-from_get_or F64 xs nan (λ j _. f j) in
+    let r = sums_none (get_or xs k nan) (take k xs ++ drop (k + 1) xs) (f k) (All-append F64 (take k xs) (drop (k + 1) xs) (All-take F64 k xs l) (All-drop F64 (k + 1) xs l)) (rw s at h) in
     zeros_join k xs (start_inside xs s) r.1 r.0)
 
 zero_itself : eq ln_zero ln_zero ≡ true

@@ -1,18 +1,16 @@
 -- The lane that a sum starts from is the one that SCOPE 2.3 names, which names no other, and one of the lanes. Assumes nothing.
 use mathlib.Core.Path.{◌≡◌, refl, sym, ap, ◌∙◌, subst}
-use mathlib.Core.Bool.{Bool, true, false, true≢false}
+use mathlib.Core.Bool.{true, false, true≢false}
 use mathlib.Core.Logic.{◌⊎◌, inl, inr, ⊎_elim}
 use mathlib.Core.List.{List, [], ◌∷◌}
-use Prim.Native.Nat.{ℕ, suc, ◌+◌, ◌≤◌, ◌<◌}
+use Prim.Native.Nat.{ℕ, suc, ◌+◌, ◌<◌}
 use native.Mathlib.Nat.{not-suc-le-zero, eq-or-lt_of_le, zero-add}
 use native.Mathlib.Omega.{arith}
-use lib.Dec.{ltb}
 use lib.ListN.{length, get_or, get_or-eq_default}
 use borrow.Author.Count.{below_more}
-use borrow.Author.Tests.{ltb-true, ltb-false}
 use lib.Ieee.{Float, nan, inf, fin, lt, eq, div, of_bits}
 use Rattle.float.specs.Ops.{plus_infinity}
-use Rattle.std.specs.Prelude.{if◌then◌else◌}
+use Rattle.std.proofs.lemmas.Bool.{cases_lt}
 use Rattle.words.proofs.Cases.{test, clash, refuted}
 use Rattle.float.proofs.Constants.{minus_infinity}
 use Rattle.float.proofs.Order.{nan_not_lt, lt_trans, lt_irrefl, lt_numbers, le_or, not_lt_le, eq_lt}
@@ -35,14 +33,13 @@ neither_below : (x y : Float) → lt x plus_infinity ≡ true → lt y plus_infi
 neither_below x y p q h k = ⊎_elim (λ t. clash h t) (λ t. t) (le_or x y (not_lt_le y x (lt_numbers y plus_infinity q).0 (lt_numbers x plus_infinity p).0 k))
 
 -- a lane that is lower takes over, and else all stays
-lower-case : (l : Lowest) (i : ℕ) (x : Float)
-    → ((lt x l.value ≡ true) × (lower_of l i x ≡ record { place = i; value = x })) ⊎ ((lt x l.value ≡ false) × (lower_of l i x ≡ l))
+lower_takes : (l : Lowest) (i : ℕ) (x : Float) → lt x l.value ≡ true → lower_of l i x ≡ record { place = i; value = x }
 unfolding lower_of
-lower-case l i x = go (lt x l.value)
-  where
-    go : (b : Bool) → ((b ≡ true) × ((if b then record { place = i; value = x } else l) ≡ record { place = i; value = x })) ⊎ ((b ≡ false) × ((if b then record { place = i; value = x } else l) ≡ l))
-    go true = inl (refl, refl)
-    go false = inr (refl, refl)
+lower_takes l i x h = rw h
+
+lower_stays : (l : Lowest) (i : ℕ) (x : Float) → lt x l.value ≡ false → lower_of l i x ≡ l
+unfolding lower_of
+lower_stays l i x h = rw h
 
 -- the lanes are g 0, g 1 and so on
 module _ (g : ℕ → Float) where
@@ -55,14 +52,11 @@ module _ (g : ℕ → Float) where
     none : (j : ℕ) → j < i → lt (g j) l.value ≡ false
     found : ((l.value ≡ plus_infinity) × (l.place ≡ 0)) ⊎ Found l i
 
-  under_infinity : (l : Lowest) (i : ℕ) (x : Float) → Seen l i → lt x l.value ≡ true → lt x plus_infinity ≡ true
-  under_infinity l i x s h = below_infinity x l.value h
-
   take_over : (l : Lowest) (i : ℕ) → Seen l i → lt (g i) l.value ≡ true → Seen (record { place = i; value = g i }) (i + 1)
   take_over l i s h =
       record {
         none = below_more (λ j. lt (g j) (g i) ≡ false) i (λ j k. refuted (lt (g j) (g i)) (λ t. clash (s.none j k) (lt_trans (g j) (g i) l.value t h))) (lt_irrefl (g i));
-        found = inr (omega arith, refl, under_infinity l i (g i) s h, λ j k. refuted (eq (g j) (g i)) (λ t. clash (s.none j k) (eq_lt (g j) (g i) l.value t h)));
+        found = inr (omega arith, refl, below_infinity (g i) l.value h, λ j k. refuted (eq (g j) (g i)) (λ t. clash (s.none j k) (eq_lt (g j) (g i) l.value t h)));
       }
 
   stay : (l : Lowest) (i : ℕ) → Seen l i → lt (g i) l.value ≡ false → Seen l (i + 1)
@@ -82,10 +76,9 @@ module _ (g : ℕ → Float) where
       let after : (k : ℕ) → get_or xs k nan ≡ g (i + 1 + k) = λ k. h (suc k) ∙ ap g (shift i k) in
       subst (λ (n : ℕ). Seen (lowest_from (lower_of l i x) (i + 1) xs) n) e
       (walk xs (lower_of l i x) (i + 1) after
-      (⊎_elim
-      (λ w. rw (w.1, x-is) (take_over l i s (sym (ap (λ y. lt y l.value) x-is) ∙ w.0)))
-      (λ w. rw w.1 (stay l i s (sym (ap (λ y. lt y l.value) x-is) ∙ w.0)))
-      (lower-case l i x)))
+      (test (lt x l.value)
+      (λ t. rw (lower_takes l i x t, x-is) (take_over l i s (sym (ap (λ y. lt y l.value) x-is) ∙ t)))
+      (λ t. rw (lower_stays l i x t) (stay l i s (sym (ap (λ y. lt y l.value) x-is) ∙ t)))))
     where
       shift : (i k : ℕ) → i + suc k ≡ i + 1 + k
       shift i k = omega arith
@@ -93,14 +86,6 @@ module _ (g : ℕ → Float) where
 -- before the first lane
 nothing_seen : (g : ℕ → Float) → Seen g (record { place = 0; value = plus_infinity }) 0
 nothing_seen g = record { none = λ j k. absurd (not-suc-le-zero k); found = inl (refl, refl) }
-
--- a place is past a length, or before it
-place : (j n : ℕ) → (n ≤ j) ⊎ (j < n)
-place j n = go (ltb j n) refl
-  where
-    go : (b : Bool) → ltb j n ≡ b → (n ≤ j) ⊎ (j < n)
-    go true e = inr (ltb-true j n e)
-    go false e = inl (ltb-false j n e)
 
 module _ (xs : List Float) where
   lane : ℕ → Float
@@ -120,7 +105,7 @@ module _ (xs : List Float) where
 
   none_below : (j : ℕ) → lt (lane j) (start_lane xs).value ≡ false
   unfolding lane
-  none_below j = ⊎_elim (λ h. rw (get_or-eq_default xs nan h) (nan_not_lt _)) (λ h. seen.none j h) (place j (length xs))
+  none_below j = ⊎_elim (λ h. seen.none j h) (λ h. rw (get_or-eq_default xs nan h) (nan_not_lt _)) (cases_lt j (length xs))
 
   starts : Starts xs (start_lane xs).place
   unfolding lane
@@ -136,7 +121,7 @@ module _ (xs : List Float) where
   one_start =
       record {
         starts = starts;
-        only = λ s t a b. ⊎_elim (λ h. ⊎_elim (λ e. sym e) (λ k. absurd (not-before t s b a k)) (eq-or-lt_of_le h)) (λ k. absurd (not-before s t a b k)) (place s t);
+        only = λ s t a b. ⊎_elim (λ k. absurd (not-before s t a b k)) (λ h. ⊎_elim (λ e. sym e) (λ k. absurd (not-before t s b a k)) (eq-or-lt_of_le h)) (cases_lt s t);
       }
 
 -- where not every lane is -infinity the start is one of them
