@@ -174,6 +174,7 @@ fn near(f: f64) -> f64
 }
 
 // k * ln 2 + ln(1 + f) + c in the same way.
+// kept: no plainer: one function with the sum as a closure has a contract longer than this body
 #[tactic(auto, unfolding(crate::specs::LnOnePlus::joined_of))]
 fn far(f: f64, k: f64, c: f64) -> f64
     requires { eq k plus_zero ≡ false }

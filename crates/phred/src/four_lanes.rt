@@ -1,5 +1,6 @@
 // ln_sum_exp_array for four lanes, as they are run: no walk over a slice, and the lane to start from is
 // moved to the front by comparisons alone.
+// kept: slower: 139 -> 143 ns a sum by ln_sum_exp_array, the best of 400 runs of 4,096 calls from C
 ghost use Rattle.std.specs.Prelude.{◌≡◌};
 ghost use Rattle.phred.specs.FourLanes.{least_of, first_two, first_three, ln_sum_exp_four};
 ghost use Rattle.phred.specs.Phred.{ln_sum_exp_array};
