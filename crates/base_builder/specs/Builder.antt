@@ -1,5 +1,5 @@
 -- The builder of one position and its calls.
-use Rattle.std.specs.Prelude.{ℕ, ◌+◌, ◌%◌, ◌^◌, min, Bool, not, ◌&&◌, ◌||◌, List, leb, ltb, eqb, get_or, replicate, Float}
+use Rattle.std.specs.Prelude.{ℕ, ◌+◌, ◌%◌, ◌^◌, min, Bool, not, ◌&&◌, ◌||◌, Ok, Err, List, leb, ltb, eqb, get_or, replicate, Float}
 use Rattle.std.specs.Float.{nan}
 use Rattle.float.specs.Ops.{plus_zero}
 use Rattle.std.specs.Prelude.{if◌then◌else◌}
@@ -7,13 +7,12 @@ use Rattle.phred.specs.Phred.{phred_to_ln_error_prob}
 use Rattle.phred.specs.declared.LogProbability.{LogProbability}
 use Rattle.refusals.specs.declared.Refusal.TheVariants.{FullBuilder}
 use Rattle.refusals.specs.Refusals.{number_of}
+use Rattle.refusals.specs.Result.{Verdict}
 use Rattle.tie_rules.specs.declared.tie_rule.TieRule.{TieRule}
 use Rattle.tie_rules.specs.declared.tie_rule.TieRule.TheVariants.{FgbioCompat}
 use Rattle.lane_sums.specs.declared.observation.Sum.{Sum}
 use Rattle.lane_sums.specs.declared.observation.LaneSums.{LaneSums}
 use Rattle.base_builder.specs.declared.builder.ConsensusBaseBuilder.{ConsensusBaseBuilder}
-use Rattle.base_builder.specs.declared.builder.Answer.{Answer}
-use Rattle.base_builder.specs.declared.builder.Answer.TheVariants.{Accepted, Refused}
 use Rattle.tie_rules.specs.Lanes.{lanes, no_lane, lane_of_byte, counted}
 use Rattle.lane_sums.specs.Observation.{sum_at, moved_lanes, value_of, count_of}
 
@@ -98,16 +97,11 @@ unfoldable pub added : List Float → List Float → ℕ → ℕ → ConsensusBa
 added correct error base q b = added_by (get_or correct (entry_of q) nan) (get_or error (entry_of q) nan) base b
 
 -- the answer: refused where a base meets a full builder
-unfoldable pub add_answer : ℕ → ConsensusBaseBuilder → Answer
+unfoldable pub add_answer : ℕ → ConsensusBaseBuilder → Verdict
 add_answer base b =
-    if eqb (lane_of_byte base) no_lane then Accepted
-    else if is_full b then Refused
-    else Accepted
-
--- the number (SCOPE 7) of an answer, 0 for one that is no refusal
-abbrev pub add_number : Answer → ℕ
-add_number Accepted = 0
-add_number Refused = number_of FullBuilder
+    if eqb (lane_of_byte base) no_lane then Ok tt
+    else if is_full b then Err FullBuilder
+    else Ok tt
 
 -- the number of the refusal that a byte meets, 0 for none: a base is refused at a full builder
 unfoldable pub refusal_of : ℕ → ConsensusBaseBuilder → ℕ

@@ -5,7 +5,4 @@
 mod builder;
 mod calls;
 
-pub use builder::{
-    Addition, Answer, ConsensusBaseBuilder, FULL_COUNT, add_entry, add_with, entry, observed, total,
-};
-pub use calls::{call_with, try_unanimous_fast_path_with};
+pub use builder::{ConsensusBaseBuilder, FULL_COUNT, entry, total};

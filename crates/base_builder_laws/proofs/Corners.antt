@@ -21,7 +21,6 @@ use Rattle.elementary.specs.Ln.{ratio_of, normal_of, ln_of}
 use Rattle.phred.specs.Phred.{ln_zero, phred_to_ln_error_prob, ln_one_minus_exp, ln_not, log1pexp_of, ln_a_minus_b, ln_sum_exp_general, ln_sum_exp, two_trials, ln_error_prob_two_trials}
 use Rattle.rate_tables.specs.Adjusted.{adjusted_error, correct_at, error_per_alt_at, adjusted_tables}
 use Rattle.words.specs.Lists.{listed}
-use Rattle.lane_sums.specs.declared.observation.Sum.{Sum}
 use Rattle.lane_sums.specs.Observation.{moved_by}
 use Rattle.base_builder_laws.specs.Corners.{sinks_at, about_ln, at_quality0, NanAfter}
 

@@ -9,6 +9,7 @@ use lib.Ieee.{Float, nan, lt, le, of_bits}
 use lib.Ieee.Bits.{is_true}
 use lib.Ieee.Scale.{finite}
 use borrow.Author.Tests.{le-ltb, le-leb, ne_eqb}
+use Rattle.std.specs.Prelude.{Option, Some, None}
 use Rattle.float.specs.Ops.{◌⊖◌, epsilon}
 use Rattle.words.proofs.Cases.{both, choice, clash}
 use Rattle.float.proofs.Order.{lt_trans, lt-le}
@@ -21,17 +22,16 @@ use Rattle.gap_tables.specs.Gaps.{unanimous_quality_from_gap, threshold_at, cap_
 use Rattle.words.proofs.Listed.{level_at}
 use Rattle.gap_tables.proofs.OfARate.{thresholds_of_a_rate}
 use Rattle.tie_rules.specs.Lanes.{base_of}
-use Rattle.lane_calls.specs.declared.call.Reply.{Reply}
-use Rattle.lane_calls.specs.declared.call.Reply.TheVariants.{Replied, Deferred}
 use Rattle.lane_calls.specs.Calls.{called}
+use Rattle.lane_calls.specs.declared.call.Call.{Call}
 use Rattle.unanimous_shortcut.specs.Search.{entry, partition_point}
 use Rattle.unanimous_shortcut.proofs.PartitionPoint.{point_above, point_below}
 use Rattle.unanimous_shortcut.specs.Unanimous.{leads, clears_cap, clears_lower, clears_upper, cap_reply, bracket_reply, gap_reply}
 
 -- a reply names lane i, with a quality of 2 to 93
-abbrev pub Names : ℕ → Reply → Type 0
-Names i (Replied c) = (c.base ≡ base_of i) × Level c.qual.0
-Names i Deferred = Unit {0}
+abbrev pub Names : ℕ → Option Call → Type 0
+Names i (Some c) = (c.base ≡ base_of i) × Level c.qual.0
+Names i None = Unit {0}
 
 pub own_entry : (pre level : ℕ) → level ≤ 93 → get_or (gap_tables pre).thresholds level nan ≡ threshold_at pre level
 unfolding gap_tables
@@ -70,16 +70,16 @@ module _ (pre i : ℕ) (winner loser : Float) where
   cap_names =
       let cap = own_cap pre in
       rw (ne_eqb t.cap 0 (λ (e : t.cap ≡ 0). omega arith))
-      (choice (Names i) (clears_cap t winner loser) (Replied (called i t.cap)) Deferred (λ _. (refl, cap)) (λ _. tt))
+      (choice (Names i) (clears_cap t winner loser) (Some (called i t.cap)) None (λ _. (refl, cap)) (λ _. tt))
 
   bracket_names : (p : ℕ) → 3 ≤ p → p ≤ 93 → Names i (bracket_reply t i winner loser p)
   unfolding bracket_reply
   bracket_names p h k =
       let level : Level (p - 1) = (omega arith, omega arith) in
       rw (ne_eqb p 0 (λ (e : p ≡ 0). omega arith), le-ltb 93 p k)
-      (choice (Names i) (not (clears_lower t winner loser p)) Deferred _
+      (choice (Names i) (not (clears_lower t winner loser p)) None _
       (λ _. tt)
-      (λ _. choice (Names i) (clears_upper t winner loser p) (Replied (called i (p - 1))) Deferred (λ _. (refl, level)) (λ _. tt)))
+      (λ _. choice (Names i) (clears_upper t winner loser p) (Some (called i (p - 1))) None (λ _. (refl, level)) (λ _. tt)))
 
   pub gap_names : leads winner loser ≡ true → Names i (gap_reply t i winner loser)
   unfolding gap_reply leads

@@ -5,6 +5,7 @@ use Prim.Native.Nat.{ℕ, zero, suc, ◌+◌, ◌%◌, ◌<◌}
 use lib.Dec.{ltb, eqb}
 use lib.Ieee.Scale.{finite}
 use borrow.Author.Tests.{ltb-true}
+use Rattle.std.specs.Prelude.{Option, Some, None}
 use Rattle.float.specs.Ops.{◌⊕◌, ◌⊖◌}
 use Rattle.words.proofs.Cases.{both, choice, clash}
 use Rattle.phred.specs.Phred.{ln_prob_to_phred}
@@ -14,8 +15,6 @@ use Rattle.gap_tables.specs.Gaps.{gap_tables}
 use Rattle.tie_rules.specs.Lanes.{lane, no_lane, base_of}
 use Rattle.tie_rules.specs.Ties.{untied, none_above}
 use Rattle.lane_calls.specs.declared.call.Call.{Call}
-use Rattle.lane_calls.specs.declared.call.Reply.{Reply}
-use Rattle.lane_calls.specs.declared.call.Reply.TheVariants.{Replied, Deferred}
 use Rattle.lane_calls.specs.Calls.{called, no_call}
 use Rattle.unanimous_shortcut.specs.Unanimous.{leads, sole_lane, gap_reply, reply_for_lane, unanimous_reply}
 use Rattle.lane_calls.specs.Multibase.{rest_below, magnitude_below, final_error, delta_of, stable_reply, rest_reply, multibase_reply}
@@ -33,19 +32,19 @@ asked b =
     ltb i no_lane && (leads winner (lane b.likelihoods ((i + 1) % 4)) && (finite winner && untied b.tie_rule b.likelihoods i winner))
 
 -- any claim on its reply: where it asks for the tables' answer, and where it defers
-pub unanimous_by : (pre : ℕ) (b : ConsensusBaseBuilder) (P : Reply → Type 0)
-    → ((r : Reply) → asked b ≡ true → Names (sole_lane b.observations) r → P r) → P Deferred → P (unanimous_of (gap_tables pre) b)
+pub unanimous_by : (pre : ℕ) (b : ConsensusBaseBuilder) (P : Option Call → Type 0)
+    → ((r : Option Call) → asked b ≡ true → Names (sole_lane b.observations) r → P r) → P None → P (unanimous_of (gap_tables pre) b)
 unfolding unanimous_of unanimous_reply reply_for_lane
 unanimous_by pre b P f d =
     let i = sole_lane b.observations in
     let winner = lane b.likelihoods i in
     let loser = lane b.likelihoods ((i + 1) % 4) in
-    choice P (asked b) (gap_reply (gap_tables pre) i winner loser) Deferred
+    choice P (asked b) (gap_reply (gap_tables pre) i winner loser) None
     (λ h. f _ h (gap_names pre i winner loser (both (leads winner loser) _ (both (ltb i no_lane) _ h).1).0))
     (λ _. d)
 
 -- and on the multibase shortcut's
-pub multibase_by : (b : ConsensusBaseBuilder) (P : Reply → Type 0) → ((r : Reply) → ruled b < 4 → Names (ruled b) r → P r) → P Deferred → P (multibase_of b)
+pub multibase_by : (b : ConsensusBaseBuilder) (P : Option Call → Type 0) → ((r : Option Call) → ruled b < 4 → Names (ruled b) r → P r) → P None → P (multibase_of b)
 unfolding multibase_of multibase_reply rest_reply stable_reply
 multibase_by b P f d =
     let pre = b.ln_error_pre_umi.0 in
@@ -56,11 +55,11 @@ multibase_by b P f d =
     let final = final_error pre r in
     let delta = delta_of r (magnitude_below xs m 4) in
     let q = ln_prob_to_phred final in
-    choice P (ltb i no_lane && (finite m && (untied b.tie_rule xs i m && none_above xs m))) _ Deferred
+    choice P (ltb i no_lane && (finite m && (untied b.tie_rule xs i m && none_above xs m))) _ None
     (λ h.
     let inside = ltb-true i 4 (both (ltb i no_lane) _ h).0 in
-    choice P (eqb (ln_prob_to_phred (final ⊖ delta)) q && eqb (ln_prob_to_phred (final ⊕ delta)) q) (Replied (called i q)) Deferred
-    (λ _. f (Replied (called i q)) inside (refl, levels final))
+    choice P (eqb (ln_prob_to_phred (final ⊖ delta)) q && eqb (ln_prob_to_phred (final ⊕ delta)) q) (Some (called i q)) None
+    (λ _. f (Some (called i q)) inside (refl, levels final))
     (λ _. d))
     (λ _. d)
 

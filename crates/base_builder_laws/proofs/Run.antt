@@ -17,7 +17,7 @@ use Rattle.phred.specs.declared.LogProbability.{LogProbability}
 use Rattle.rate_tables.specs.declared.adjusted.AdjustedProbabilityTables.{AdjustedProbabilityTables}
 use Rattle.rate_tables.specs.Adjusted.{adjusted_tables}
 use Rattle.tie_rules.specs.declared.tie_rule.TieRule.{TieRule}
-use Rattle.tie_rules.specs.Lanes.{lane, no_lane, lane_of_byte, counted}
+use Rattle.tie_rules.specs.Lanes.{no_lane, lane_of_byte, counted}
 use Rattle.tie_rules.proofs.Lanes.{lanes_at, in_lane}
 use Rattle.base_builder.specs.declared.builder.ConsensusBaseBuilder.{ConsensusBaseBuilder}
 use Rattle.lane_sums.specs.Observation.{moved_by, value_of, count_of}

@@ -9,6 +9,7 @@ use lib.Dec.{ltb, eqb}
 use lib.Ieee.{lt}
 use lib.Ieee.Scale.{finite}
 use borrow.Author.Tests.{ltb-true, eqb-true}
+use Rattle.std.specs.Prelude.{Option, Some, None}
 use Rattle.float.specs.Ops.{◌⊖◌, epsilon}
 use Rattle.std.specs.Prelude.{if◌then◌else◌}
 use Rattle.words.proofs.Cases.{both, clash}
@@ -18,8 +19,7 @@ use Rattle.tie_rules.proofs.Lanes.{below_at}
 use Rattle.tie_rules.specs.Lanes.{lane, no_lane, base_of, counted}
 use Rattle.words.specs.Claims.{all_below}
 use Rattle.tie_rules.specs.Ties.{untied}
-use Rattle.lane_calls.specs.declared.call.Reply.{Reply}
-use Rattle.lane_calls.specs.declared.call.Reply.TheVariants.{Replied, Deferred}
+use Rattle.lane_calls.specs.declared.call.Call.{Call}
 use Rattle.unanimous_shortcut.specs.Unanimous.{first_seen, sole_lane, leads}
 use Rattle.base_builder.specs.declared.builder.ConsensusBaseBuilder.{ConsensusBaseBuilder}
 use Rattle.base_builder.specs.Calls.{unanimous_of, multibase_of, call_full_of}
@@ -69,17 +69,17 @@ module _ (t : AdjustedProbabilityTables) (os : List CountedObservation) (b : Con
       rw (alike t os b had j next k (omega arith) (unseen j k d) (unseen next (omega arith) (omega arith))) (gap_lt winner (lane xs next) gap))
       b.tie_rule h3.1
 
-  agrees : (k : ℕ) (r : Reply) → ruled b ≡ k → Names k r → Agrees r (call_full_of b)
-  agrees k (Replied c) e n = n.0 ∙ sym (full_base b ∙ ap base_of e)
-  agrees k Deferred e n = tt
+  agrees : (k : ℕ) (r : Option Call) → ruled b ≡ k → Names k r → Agrees r (call_full_of b)
+  agrees k (Some c) e n = n.0 ∙ sym (full_base b ∙ ap base_of e)
+  agrees k None e n = tt
 
   pub unanimous_agrees : (pre : ℕ) → Agrees (unanimous_of (gap_tables pre) b) (call_full_of b)
-  unanimous_agrees pre = unanimous_by pre b (λ (r : Reply). Agrees r (call_full_of b)) (λ r h n. agrees i r (sole_named h) n) tt
+  unanimous_agrees pre = unanimous_by pre b (λ (r : Option Call). Agrees r (call_full_of b)) (λ r h n. agrees i r (sole_named h) n) tt
 
 -- on any builder at all: both name the rule's lane
 pub multibase_agrees : (b : ConsensusBaseBuilder) → Agrees (multibase_of b) (call_full_of b)
-multibase_agrees b = multibase_by b (λ (r : Reply). Agrees r (call_full_of b)) (λ r h n. go r n) tt
+multibase_agrees b = multibase_by b (λ (r : Option Call). Agrees r (call_full_of b)) (λ r h n. go r n) tt
   where
-    go : (r : Reply) → Names (ruled b) r → Agrees r (call_full_of b)
-    go (Replied c) n = n.0 ∙ sym (full_base b)
-    go Deferred n = tt
+    go : (r : Option Call) → Names (ruled b) r → Agrees r (call_full_of b)
+    go (Some c) n = n.0 ∙ sym (full_base b)
+    go None n = tt

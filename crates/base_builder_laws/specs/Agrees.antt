@@ -1,10 +1,8 @@
 -- A shortcut and the long calculation.
-use Rattle.std.specs.Prelude.{◌≡◌}
+use Rattle.std.specs.Prelude.{Option, Some, None, ◌≡◌}
 use Rattle.lane_calls.specs.declared.call.Call.{Call}
-use Rattle.lane_calls.specs.declared.call.Reply.{Reply}
-use Rattle.lane_calls.specs.declared.call.Reply.TheVariants.{Replied, Deferred}
 
 -- where a shortcut replies, the long calculation names the same base
-abbrev pub Agrees : Reply → Call → Type 0
-Agrees (Replied short) full = short.base ≡ full.base
-Agrees Deferred full = Unit {0}
+abbrev pub Agrees : Option Call → Call → Type 0
+Agrees (Some short) full = short.base ≡ full.base
+Agrees None full = Unit {0}

@@ -1,9 +1,7 @@
 -- What a call can be.
-use Rattle.std.specs.Prelude.{ℕ, Bool, true, ◌&&◌, ◌||◌, T, leb, eqb}
+use Rattle.std.specs.Prelude.{Option, Some, None, ℕ, Bool, true, ◌&&◌, ◌||◌, T, leb, eqb}
 use Rattle.gap_tables.specs.Gaps.{gap_tables}
 use Rattle.lane_calls.specs.declared.call.Call.{Call}
-use Rattle.lane_calls.specs.declared.call.Reply.{Reply}
-use Rattle.lane_calls.specs.declared.call.Reply.TheVariants.{Replied, Deferred}
 use Rattle.base_builder.specs.declared.builder.ConsensusBaseBuilder.{ConsensusBaseBuilder}
 use Rattle.base_builder.specs.Calls.{unanimous_of, multibase_of, call_full_of, call_of}
 
@@ -18,9 +16,9 @@ is_call c =
     is_called_base c.base && (leb 2 q && leb q 93) || eqb c.base 78 && eqb q 2
 
 -- a shortcut that replies gives such a call
-abbrev pub replies_well : Reply → Bool
-replies_well (Replied c) = is_call c
-replies_well Deferred = true
+abbrev pub replies_well : Option Call → Bool
+replies_well (Some c) = is_call c
+replies_well None = true
 
 -- Any builder, with the tables of any pre-UMI rate, its own or another: the call, the long calculation and each shortcut's reply.
 pub record GoodCalls (pre : ℕ) (b : ConsensusBaseBuilder) : Type 0 where

@@ -3,7 +3,6 @@ use Rattle.std.specs.Prelude.{List, map}
 use Rattle.gap_tables.specs.Gaps.{gap_tables}
 use Rattle.lane_calls.specs.declared.call.Call.{Call}
 use Rattle.base_builder.specs.declared.builder.ConsensusBaseBuilder.{ConsensusBaseBuilder}
-use Rattle.base_builder.specs.Builder.{new_at, with_tie_rule}
 use Rattle.base_builder.specs.Calls.{call_of}
 use Rattle.base_builder.specs.History.{Event, add, after}
 use Rattle.column_file.specs.declared.settings.Settings.{Settings}
@@ -13,10 +12,6 @@ use Rattle.column_calls.specs.declared.columns.ColumnCall.{ColumnCall}
 -- an observation as what happens to a builder
 abbrev pub event_of : Observation → Event
 event_of o = add o.base o.quality
-
--- a new builder at a file's settings
-abbrev pub start_of : Settings → ConsensusBaseBuilder
-start_of g = with_tie_rule g.tie_rule (new_at g.error_rate_pre_umi.0)
 
 -- the builder of a column: a new one, after its observations in their order
 unfoldable pub builder_of_column : Settings → List Observation → ConsensusBaseBuilder

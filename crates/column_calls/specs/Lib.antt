@@ -1,2 +1,4 @@
-pub mod Columns
+pub mod Start
 pub mod Tables
+pub mod Callers
+pub mod Columns

@@ -1,7 +1,6 @@
-// From a column's bytes to its call and counts. The windows and the gap tables of the file's rates are
-// built once and borrowed.
+// From a column's bytes to its call and counts.
 #![tactic(auto)]
 
 mod columns;
 
-pub use columns::{ColumnCall, call_column, start};
+pub use columns::{ColumnCall, ColumnCaller, call_column, start};

@@ -1,17 +1,15 @@
 -- The lines of columns: one column at a time, how long they are, and that 64 bits are enough. Assumes nothing.
 use mathlib.Core.Path.{◌≡◌, refl}
 use mathlib.Core.List.{List, [], ◌∷◌, ◌++◌}
-use Prim.Native.Nat.{ℕ, ◌+◌, ◌-◌, ◌*◌, ◌%◌, ◌^◌, ◌≤◌, ◌<◌}
+use Prim.Native.Nat.{ℕ, ◌*◌, ◌%◌, ◌^◌, ◌≤◌}
 use native.Mathlib.Nat.{mod-lt}
 use native.Mathlib.Omega.{arith}
 use lib.ListN.{length, length-append}
-use Rattle.lent_text.specs.Text.{decimal, newline}
 use Rattle.lent_text.proofs.Decimal.{decimal_length}
 use Rattle.string_set.specs.Readers.{longest_file}
-use Rattle.column_file.specs.declared.columns.ColumnPlace.TheVariants.{At, Past}
 use Rattle.column_file.specs.Format.{Observation}
-use Rattle.column_file.specs.Places.{column_at, columns_at, columns_size}
-use Rattle.column_file.proofs.ColumnParts.{part_of, columns_more, columns_past, columns_none, columns_most}
+use Rattle.column_file.specs.Places.{columns_at, columns_size}
+use Rattle.column_file.proofs.ColumnParts.{columns_most}
 use Rattle.expected_errors.specs.Table.{error_table}
 use Rattle.expected_errors.specs.Sums.{errors_with, error_sum}
 use Rattle.expected_errors.specs.Laws.{most_qualities}
@@ -19,27 +17,15 @@ use Rattle.expected_errors.proofs.SumLaws.{nothing_lost}
 use Rattle.column_errors.specs.ErrorSums.{sum_line, sum_lines}
 use Rattle.column_errors.specs.Tables.{sum_line_with, sum_lines_with}
 
--- n columns from a place on, by any table
-module _ (table s : List ℕ) (at n : ℕ) where
-  -- their lines
-  abbrev left : List ℕ
-  left = sum_lines_with table (columns_at s at n)
+-- the line of a column and those after it
+pub lines_next : (table : List ℕ) (c : List Observation) (rest cs : List (List Observation)) → cs ≡ c ∷ rest
+    → sum_lines_with table cs ≡ sum_line_with table c ++ sum_lines_with table rest
+unfolding sum_lines_with
+lines_next table c rest cs e = rw e
 
-  -- one column more: its line, and those of the columns after it
-  pub lines_more : (start k : ℕ) → 0 < n → column_at s at ≡ At start k
-      → left ≡ (decimal (errors_with table (part_of s start k) % 2 ^ 64) ++ (newline ∷ [])) ++ sum_lines_with table (columns_at s (start + 2 * k) (n - 1))
-  unfolding sum_lines_with sum_line_with
-  lines_more start k h e = rw (columns_more s at n start k h e)
-
-  -- none more: the bytes do not reach
-  pub lines_past : column_at s at ≡ Past → left ≡ []
-  unfolding sum_lines_with
-  lines_past e = rw (columns_past s at n e)
-
-  -- none more: no column is left
-  pub lines_none : n ≤ 0 → left ≡ []
-  unfolding sum_lines_with
-  lines_none h = rw (columns_none s at n h)
+pub lines_none : (table : List ℕ) (cs : List (List Observation)) → cs ≡ [] → sum_lines_with table cs ≡ []
+unfolding sum_lines_with
+lines_none table cs e = rw e
 
 -- ---- how long they are: a number of 64 bits has at most 20 digits
 

@@ -2,10 +2,7 @@
 use Rattle.std.specs.Prelude.{ℕ, ◌%◌, ◌^◌, List, [], ◌∷◌}
 use Rattle.lent_bytes.specs.Bytes.{joined}
 use Rattle.lent_text.specs.Text.{decimal, line}
-use Rattle.column_file.specs.declared.file.Places.{Places}
 use Rattle.column_file.specs.Format.{Observation}
-use Rattle.column_file.specs.Places.{columns_at}
-use Rattle.expected_errors.specs.Table.{error_table}
 use Rattle.expected_errors.specs.Sums.{errors_with}
 
 -- a column's line
@@ -15,7 +12,3 @@ sum_line_with table c = line (decimal (errors_with table c % 2 ^ 64) ∷ [])
 -- of columns, one after another
 unfoldable pub sum_lines_with : List ℕ → List (List Observation) → List ℕ
 sum_lines_with table cs = joined (sum_line_with table) cs
-
--- of the columns that lie at a file's places
-unfoldable pub places_sums : Places → List ℕ → List ℕ
-places_sums p s = sum_lines_with error_table (columns_at s p.columns p.count)

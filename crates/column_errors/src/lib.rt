@@ -4,5 +4,5 @@
 mod stream;
 mod sums;
 
-pub use stream::{INPUT_ROOM, TEXT_ROOM, print_stream};
+pub use stream::{TEXT_ROOM, print_stream};
 pub use sums::print;

@@ -1,77 +1,70 @@
 // The error sums of a file, into a borrowed buffer.
-ghost use Rattle.std.specs.Prelude.{◌≡◌, ◌<◌, leb, length};
-ghost use Rattle.lent_bytes.specs.Buffer.{length_written, written};
+// kept: no plainer: what is read and the buffer that is written are two borrows, which a struct would only join
+ghost use Rattle.std.specs.Prelude.{◌≡◌, ◌<◌};
+ghost use Rattle.lent_bytes.specs.Buffer.{written, written_length};
 ghost use Rattle.lent_text.specs.Printed.{Printed};
 ghost use Rattle.string_set.specs.Readers.{longest_file};
-ghost use Rattle.column_file.specs.Places.{columns_at};
+ghost use Rattle.column_file.specs.Places.{columns_at, observations_in};
 ghost use Rattle.column_errors.specs.ErrorSums.{error_sums_of};
-ghost use Rattle.column_errors.specs.Tables.{sum_lines_with, places_sums};
+ghost use Rattle.column_errors.specs.Tables.{sum_line_with, sum_lines_with};
 
-use column_file::{ColumnPlace, Places, Reading, column_at};
+use column_file::Columns;
 use expected_errors::{error_table, errors_with};
-use lent_text::{put_byte, put_decimal};
+use lent_text::Printer;
 use refusal_text::print_refusal;
+use whole_text::{Text, put_whole};
 
-// A line for each column.
-fn put_sums(file: &[u8], from: usize, count: usize, errors: &[u64; 256], out: &mut [u8]) -> usize
-    ensures { Printed out.old 0 (sum_lines_with errors.now (columns_at file.now from count)) out.new result }
+fn put_sum(p: &mut Printer, column: &[u8], errors: &[u64; 256])
+    ensures { Printed p.old p.new (sum_line_with errors.now (observations_in column.now)) }
 {
-    let mut column = from;
-    let mut left = count;
-    let mut place: usize = 0;
-    while 0 < left {
-        let next = column_at(file, column);
-        let ColumnPlace::At(first, n) = next else {
-            return place;
-        };
-        let end = first + 2 * n;
-        let sum = errors_with(&file[first..end], errors);
-        let line_end = put_decimal(out, place, sum);
-        place = put_byte(out, line_end, b'\n');
-        column = end;
-        left -= 1;
-    }
-    place
+    p.decimal(errors_with(column, errors));
+    p.byte(b'\n');
 }
 
-// Whether `room` bytes hold the text. A line has at most 21 bytes; where that many for each column do not
-// fit, the text is printed into an empty buffer, and only counted.
-fn fits(room: usize, file: &[u8], from: usize, count: usize, errors: &[u64; 256]) -> bool
-    requires { count < longest_file }
-    ensures { result ≡ leb (length (sum_lines_with errors.now (columns_at file.now from count))) room }
-{
-    if 21 * count <= room {
-        return true;
-    }
-    let mut nothing = [0u8; 1];
-    put_sums(file, from, count, errors, &mut nothing) <= room
+// What a text is printed from: a line for each column.
+// kept: no plainer: nothing compares or prints it
+#[derive(Clone, Copy)]
+struct Sums<'a> {
+    columns: Columns<'a>,
+    errors: &'a [u64; 256],
+    ghost few: { columns.left < longest_file },
 }
 
-// The text, where it fits.
-fn print_sums(file: &[u8], places: Places, out: &mut [u8]) -> usize
-    requires { places.count < longest_file }
-    ensures reply { result ≡ length_written (places_sums places file.now) out.old }
-    ensures lent { out.new ≡ written (places_sums places file.now) out.old }
-{
-    let from = places.columns;
-    let count = places.count;
-    let errors = error_table();
-    let room = out.len();
-    if !fits(room, file, from, count, &errors) {
-        return 0;
+impl Text for Sums<'_> {
+    ghost text = { λ s. sum_lines_with s.errors.now (columns_at s.columns.file.now s.columns.at s.columns.left) };
+
+    // A line has at most 21 bytes.
+    fn longest(&self) -> usize {
+        21 * self.columns.left
     }
-    put_sums(file, from, count, &errors, out)
+
+    fn put(&self, p: &mut Printer) {
+        // Read once, so that the proof knows its range.
+        let _from = p.at;
+        for column in self.columns {
+            put_sum(p, column, self.errors);
+        }
+    }
 }
 
-// What the program prints for a file, the line of a refused one included, and how long it is; 0 where
-// the buffer is too short, which is then left as it is. A file without columns has an empty text.
-pub fn print(file: &[u8], out: &mut [u8]) -> usize
-    ensures reply { result ≡ length_written (error_sums_of file.now) out.old }
+// How long what the program prints for a file is, the line of a refused one included; none where the
+// buffer is too short, which is then left as it is. A file without columns has an empty text.
+pub fn print(file: &[u8], out: &mut [u8]) -> Option<usize>
+    ensures reply { result ≡ written_length (error_sums_of file.now) out.old }
     ensures lent { out.new ≡ written (error_sums_of file.now) out.old }
 {
-    let reading = column_file::read(file);
-    match reading {
-        Reading::Refused(refusal) => print_refusal(refusal, out),
-        Reading::Accepted(places) => print_sums(file, places, out),
+    match column_file::read(file) {
+        Ok(places) => {
+            let sums = Sums {
+                columns: Columns {
+                    file,
+                    at: places.columns,
+                    left: places.count,
+                },
+                errors: error_table(),
+            };
+            put_whole(&sums, out)
+        }
+        Err(refusal) => print_refusal(refusal, out),
     }
 }

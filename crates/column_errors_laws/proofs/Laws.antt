@@ -1,4 +1,5 @@
 -- The error sums of every file: refused as in the listing, and by the columns alone. Assumes nothing.
+use Rattle.std.specs.List.{list_all}
 use mathlib.Core.Path.{◌≡◌, refl, sym, ◌∙◌, ap}
 use mathlib.Core.Bool.{true}
 use mathlib.Core.List.{List, [], ◌∷◌, map}
@@ -7,14 +8,13 @@ use native.Mathlib.Omega.{arith}
 use borrow.Author.Tests.{lt-ltb}
 use lib.Dec.{ltb}
 use lib.ListN.{length}
-use Rattle.words.specs.Lists.{every}
 use Rattle.lent_text.specs.Text.{decimal}
 use Rattle.string_set.specs.Readers.{longest_file}
 use Rattle.column_file.specs.Format.{Observation}
 use Rattle.column_file.specs.Places.{columns_size}
 use Rattle.column_file.proofs.Files.{columns_inside, file_size}
 use Rattle.listing_lines.specs.Lines.{text_of}
-use Rattle.column_listing.proofs.Outcomes.{refused_listing}
+use Rattle.column_listing.proofs.Texts.{refused_listing}
 use Rattle.column_listing_laws.specs.Laws.{is_line}
 use Rattle.column_listing_laws.proofs.LineLaws.{line_one, decimal_plain}
 use Rattle.expected_errors.specs.Sums.{error_sum}
@@ -34,7 +34,7 @@ unfolding sum_line
 sum_line_lem c = line_one (decimal (error_sum c) ∷ []) (decimal_plain (error_sum c), tt)
 
 -- columns that a file can hold have few enough qualities each
-all_exact : (cs : List (List Observation)) → columns_size cs ≤ longest_file → every (λ c. ltb (error_sum c + length c) (2 ^ 64)) cs ≡ true
+all_exact : (cs : List (List Observation)) → columns_size cs ≤ longest_file → list_all (λ c. ltb (error_sum c + length c) (2 ^ 64)) cs ≡ true
 unfolding columns_size
 all_exact [] h = refl
 all_exact (c ∷ cs) h = rw (lt-ltb (error_sum c + length c) (2 ^ 64) ((sum_laws c).exact (omega arith))) (all_exact cs (omega arith))

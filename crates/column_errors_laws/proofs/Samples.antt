@@ -1,11 +1,10 @@
 -- The two files, read and summed by computing; the listing of the second by its verdict. Assumes nothing.
+use Rattle.std.specs.Prelude.{Err, Ok}
 use mathlib.Core.Path.{◌≡◌, refl, ◌∙◌}
 use mathlib.Core.List.{List, [], ◌∷◌}
 use Prim.Native.Nat.{ℕ}
 use native.Mathlib.Omega.{arith}
 use Rattle.refusals.specs.declared.Refusal.TheVariants.{UnlikeFirst}
-use Rattle.refusals.specs.declared.Verdict.TheVariants.{Refused}
-use Rattle.refusals.specs.Result.{accepted}
 use Rattle.refusal_text.specs.RefusalText.{refusal_line}
 use Rattle.words.specs.Lists.{listed}
 use Rattle.lent_text.specs.Text.{digits, decimal}
@@ -40,11 +39,11 @@ ac_and_ag = (65 ∷ 67 ∷ []) ∷ (65 ∷ 71 ∷ []) ∷ []
 abbrev a_and_hyphen : List (List ℕ)
 a_and_hyphen = (65 ∷ []) ∷ (45 ∷ []) ∷ []
 
-sample_read : read_file sample ≡ accepted (file ac_and_ag)
+sample_read : read_file sample ≡ Ok (file ac_and_ag)
 unfolding read_file sections settings columns column observation string_set string byte word front many file_of settings_of columns_verdict column_verdict observation_verdict
 sample_read = refl
 
-unlike_read : read_file unlike ≡ accepted (file a_and_hyphen)
+unlike_read : read_file unlike ≡ Ok (file a_and_hyphen)
 unfolding read_file sections settings columns column observation string_set string byte word front many file_of settings_of columns_verdict column_verdict observation_verdict
 unlike_read = refl
 
@@ -56,7 +55,7 @@ summed : sum_lines ([] ∷ second ∷ []) ≡ sample_text
 unfolding sum_lines sum_line error_sum errors_with error_table digits
 summed = rw (decimal_one 0 (omega arith), sum_digits)
 
-unlike_verdict : consensus_verdict a_and_hyphen ≡ Refused UnlikeFirst
+unlike_verdict : consensus_verdict a_and_hyphen ≡ Err UnlikeFirst
 unfolding consensus_verdict family_verdict is_family alike columns_of listed verdict_of is_mixed is_dna_base to_ascii_uppercase
 unlike_verdict = refl
 

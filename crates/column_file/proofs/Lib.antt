@@ -1,6 +1,7 @@
 pub mod Numbers
 pub mod ColumnWalk
 pub mod ColumnParts
+pub mod Front
 pub mod SettingsRead
 pub mod Sections
 pub mod FileRead

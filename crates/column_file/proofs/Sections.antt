@@ -1,6 +1,7 @@
 -- The sections of a file by their places, forwards and backwards, and what is made of them. Assumes nothing.
+use Rattle.std.specs.Prelude.{Err, Ok}
 use mathlib.Core.Path.{◌≡◌, refl, sym, ◌∙◌, ap, subst}
-use mathlib.Core.List.{List, [], ◌∷◌}
+use mathlib.Core.List.{List}
 use Prim.Native.Nat.{ℕ, ◌+◌, ◌≤◌, ◌<◌}
 use native.Mathlib.Omega.{arith}
 use borrow.Author.Tests.{leb-true, leb-false}
@@ -8,34 +9,25 @@ use lib.Dec.{leb}
 use lib.ListN.{length, drop, length-drop}
 use Rattle.words.proofs.Cases.{test}
 use Rattle.words.specs.Lists.{byte_at}
-use Rattle.refusals.specs.declared.Refusal.{Refusal}
-use Rattle.refusals.specs.declared.Refusal.TheVariants.{CutOff}
-use Rattle.refusals.specs.declared.Verdict.{Verdict}
-use Rattle.refusals.specs.declared.Verdict.TheVariants.{Sound}
-use Rattle.refusals.specs.Result.{Result, refused, accepted, and_then}
+use Rattle.refusals.specs.Result.{Result, and_then}
 use Rattle.string_set.specs.Readers.{Taken, taken, short, many, alone, longest_file}
 use Rattle.string_set.specs.StringSet.{string_set, read_set}
-use Rattle.string_set.specs.declared.Reading.TheVariants as set
-use Rattle.string_set.specs.Places.{set_reading_of}
 use Rattle.string_set.proofs.Readers.{word_at_lem, word_end, lone_fits, alone_next}
-use Rattle.column_file.specs.declared.columns.Walked.TheVariants as walk
-use Rattle.column_file.specs.declared.file.Extent.TheVariants as extent
 use Rattle.column_file.specs.Format.{Observation, column, columns, Sections, sections}
-use Rattle.column_file.specs.Reading.{columns_verdict}
-use Rattle.column_file.specs.Places.{word_at, columns_at, columns_size, walked_from, extent_of}
-use Rattle.column_file.proofs.ColumnWalk.{Ended, ended, Walk, walk_past}
-use Rattle.column_file.proofs.SettingsRead.{bytes_of, settings_at_lem, settings_cut, bytes_length}
+use Rattle.column_file.specs.Places.{word_at, columns_at, columns_size}
+use Rattle.column_file.proofs.ColumnWalk.{Ended, ended}
+use Rattle.column_file.proofs.SettingsRead.{bytes_of, settings_at_lem, settings_cut}
 
 -- what was accepted came of something accepted
 pub record Came {A B : Type 0} (q : Result A) (f : A → Result B) (b : B) : Type 0 where
   pub of : A
-  pub is : q ≡ accepted of
-  pub gave : f of ≡ accepted b
+  pub is : q ≡ Ok of
+  pub gave : f of ≡ Ok b
 
 -- by cases
-pub came : {A B : Type 0} (q : Result A) (f : A → Result B) (b : B) → and_then q f ≡ accepted b → Came q f b
-came (refused r) f b e = absurd (let z : ◌≡◌ {A = ℕ} 0 1 = cc in omega arith)
-came (accepted a) f b e = record { of = a; is = refl; gave = e }
+pub came : {A B : Type 0} (q : Result A) (f : A → Result B) (b : B) → and_then q f ≡ Ok b → Came q f b
+came (Err r) f b e = absurd (cc)
+came (Ok a) f b e = record { of = a; is = refl; gave = e }
 
 -- ---- forwards
 
@@ -72,14 +64,14 @@ module _ (s : List ℕ) where
 
     module _ (fits : length s ≤ longest_file) (cs : List (List Observation)) (place : ℕ) (e : many column announced_in (drop first_in s) ≡ taken cs (drop place s)) where
       -- what follows them is the string set
-      pub sections_next : alone (sections s) ≡ and_then (read_set (drop place s)) (λ l. accepted (sections_of s cs l))
+      pub sections_next : alone (sections s) ≡ and_then (read_set (drop place s)) (λ l. Ok (sections_of s cs l))
       unfolding sections columns read_set
       sections_next =
           let f : List (List ℕ) → Sections = sections_of s cs in
           let k : length (drop place s) ≤ longest_file = rw (length-drop place s) (omega arith) in
           let fit = sym (lone_fits string_set (drop place s) k) in
           rw (settings_at_lem s (omega arith), word_at_lem s (1 + byte_at s 0) (omega arith), same, e)
-          (alone_next f (string_set (drop place s)) ∙ ap (λ (q : Result (List (List ℕ))). and_then q (λ l. accepted (f l))) fit)
+          (alone_next f (string_set (drop place s)) ∙ ap (λ (q : Result (List (List ℕ))). and_then q (λ l. Ok (f l))) fit)
 
 -- ---- backwards
 
@@ -89,17 +81,17 @@ pub record Parts (s : List ℕ) (f : Sections) : Type 0 where
   pub settings : f.settings ≡ bytes_of s
   pub columns : columns_at s (first_in s) (length f.columns) ≡ f.columns
   pub inside : first_in s + columns_size f.columns ≤ length s
-  pub strings : read_set (drop (first_in s + columns_size f.columns) s) ≡ accepted f.strings
+  pub strings : read_set (drop (first_in s + columns_size f.columns) s) ≡ Ok f.strings
 
-module _ (s : List ℕ) (fits : length s ≤ longest_file) (f : Sections) (e : alone (sections s) ≡ accepted f) where
+module _ (s : List ℕ) (fits : length s ≤ longest_file) (f : Sections) (e : alone (sections s) ≡ Ok f) where
   -- from what the columns are read as
   parts_of : first_in s ≤ length s → (t : Taken (List (List Observation))) → many column (announced_in s) (drop (first_in s) s) ≡ t
       → Ended s (first_in s) (announced_in s) t → Parts s f
-  parts_of h short k d = absurd (let z : ◌≡◌ {A = ℕ} 0 1 = cc (ap alone (columns_cut s h k)) in omega arith)
+  parts_of h short k d = absurd (cc (ap alone (columns_cut s h k)))
   parts_of h (taken cs r) k d =
       let place = first_in s + columns_size cs in
       let next = sections_next s h fits cs place (k ∙ ap (taken cs) d.0) in
-      let g = came (read_set (drop place s)) (λ l. accepted (sections_of s cs l)) f (sym next ∙ e) in
+      let g = came (read_set (drop place s)) (λ l. Ok (sections_of s cs l)) f (sym next ∙ e) in
       let is : sections_of s cs g.of ≡ f = cc g.gave in
       subst (Parts s) is (record { reaches = h; settings = refl; columns = rw d.3 d.2; inside = d.1; strings = g.is })
 
@@ -110,61 +102,4 @@ module _ (s : List ℕ) (fits : length s ≤ longest_file) (f : Sections) (e : a
       (λ t.
       let h : first_in s ≤ length s = leb-true _ _ t in
       parts_of h (many column (announced_in s) (drop (first_in s) s)) refl (ended s (first_in s) (announced_in s) h))
-      (λ t. absurd (let z : ◌≡◌ {A = ℕ} 0 1 = cc (ap alone (sections_cut s (leb-false _ _ t))) in omega arith))
-
--- ---- where they are, by an answer
-
--- the sections that it speaks of
-pub record Found (q : Result Sections) (columns n strings : ℕ) (v : Verdict) : Type 0 where
-  pub sections : Sections
-  pub is : q ≡ accepted sections
-  pub first : columns ≡ 3 + length sections.settings
-  pub count : n ≡ length sections.columns
-  pub last : strings ≡ 3 + length sections.settings + columns_size sections.columns
-  pub verdict : v ≡ columns_verdict sections.columns
-
--- by cases
-pub found : (q : Result Sections) (columns n strings : ℕ) (v : Verdict) → extent.At columns n strings v ≡ extent_of q → Found q columns n strings v
-found (refused r) columns n strings v e = absurd (let z : ◌≡◌ {A = ℕ} 0 1 = cc in omega arith)
-found (accepted f) columns n strings v e = record { sections = f; is = refl; first = cc; count = cc; last = cc; verdict = cc }
-
--- an answer that there are none
-pub found_cut : (t : Taken Sections) → extent.Cut ≡ extent_of (alone t) → alone t ≡ refused CutOff
-found_cut short e = refl
-found_cut (taken f []) e = absurd (let z : ◌≡◌ {A = ℕ} 0 1 = cc in omega arith)
-found_cut (taken f (x ∷ r)) e = refl
-
--- ---- and the answer, by where they are
-
--- the bytes do not reach
-pub extent_cut : (s : List ℕ) → sections s ≡ short → extent.Cut ≡ extent_of (alone (sections s))
-extent_cut s e = rw e
-
-module _ (s : List ℕ) (first n : ℕ) (at : (first ≡ first_in s) × (n ≡ announced_in s) × (first_in s ≤ length s)) where
-  -- the columns do not end within the bytes
-  pub extent_columns : walk.Past ≡ walked_from first Sound (many column n (drop first s)) → extent.Cut ≡ extent_of (alone (sections s))
-  extent_columns e = extent_cut s (columns_cut s at.2 (rw (at.0, at.1) at (walk_past first (many column n (drop first s)) e)))
-
-  module _ (fits : length s ≤ longest_file) (place : ℕ) (v : Verdict) (w : Walk s first n place v) where
-    -- the string set decides
-    next : alone (sections s) ≡ and_then (read_set (drop place s)) (λ l. accepted (sections_of s w.columns l))
-    next = sections_next s at.2 fits w.columns place (rw (at.0, at.1) at w.read)
-
-    -- what follows them is no string set
-    pub extent_refused : (r : Refusal) → read_set (drop place s) ≡ refused r → extent.Cut ≡ extent_of (alone (sections s))
-    extent_refused r e = rw (next, e)
-
-    -- it is one
-    pub extent_at : (l : List (List ℕ)) → read_set (drop place s) ≡ accepted l → extent.At first n place v ≡ extent_of (alone (sections s))
-    extent_at l e =
-        let a : 3 + length (bytes_of s) ≡ first = rw (bytes_length s at.2, at.0) in
-        rw (next, e, a, w.count, ← w.end, ← w.verdict)
-
--- what a string set's answer says
-pub set_refused : (q : Result (List (List ℕ))) (r : Refusal) → set_reading_of q ≡ set.Refused r → q ≡ refused r
-set_refused (refused x) r e = cc
-set_refused (accepted l) r e = cc
-
-pub set_read : (q : Result (List (List ℕ))) (k : ℕ) → set_reading_of q ≡ set.Strings k → (l : List (List ℕ)) × (q ≡ accepted l)
-set_read (refused r) k e = absurd (let z : ◌≡◌ {A = ℕ} 0 1 = cc in omega arith)
-set_read (accepted l) k e = (l, refl)
+      (λ t. absurd (cc (ap alone (sections_cut s (leb-false _ _ t)))))

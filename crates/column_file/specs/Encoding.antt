@@ -1,8 +1,7 @@
 -- The bytes of a file, from what it says.
 use Rattle.std.specs.Prelude.{List, [], ◌∷◌, ◌++◌, ℕ, ◌/◌, ◌%◌, length}
 use Rattle.lent_bytes.specs.Bytes.{joined}
-use Rattle.tie_rules.specs.declared.tie_rule.TieRule.{TieRule}
-use Rattle.tie_rules.specs.declared.tie_rule.TieRule.TheVariants.{UlpRelative, FgbioCompat}
+use Rattle.tie_rules.specs.Ties.{rule_number}
 use Rattle.column_file.specs.declared.settings.Settings.{Settings}
 use Rattle.column_file.specs.Format.{Observation}
 use Rattle.column_file.specs.Reading.{File}
@@ -10,11 +9,6 @@ use Rattle.column_file.specs.Reading.{File}
 -- a count in two bytes, the low byte first
 abbrev pub word_bytes : ℕ → List ℕ
 word_bytes n = n % 256 ∷ n / 256 ∷ []
-
--- the number of a rule
-abbrev pub rule_number : TieRule → ℕ
-rule_number FgbioCompat = 0
-rule_number UlpRelative = 1
 
 -- the settings after their number, which is 3
 unfoldable pub settings_bytes : Settings → List ℕ

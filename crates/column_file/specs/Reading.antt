@@ -1,11 +1,9 @@
 -- What a column file says, or the number by which it is refused.
-use Rattle.std.specs.Prelude.{ℕ, ◌&&◌, List, leb, eqb, length}
+use Rattle.std.specs.Prelude.{ℕ, ◌&&◌, List, leb, eqb, length, Err, Ok}
 use Rattle.std.specs.Prelude.{if◌then◌else◌}
 use Rattle.words.specs.Lists.{byte_at}
 use Rattle.refusals.specs.declared.Refusal.TheVariants.{BadSettings, AbsentQuality}
-use Rattle.refusals.specs.declared.Verdict.{Verdict}
-use Rattle.refusals.specs.declared.Verdict.TheVariants.{Sound, Refused}
-use Rattle.refusals.specs.Result.{Result, refused, accepted, and_then, judged, first_refused}
+use Rattle.refusals.specs.Result.{Result, and_then, judged, first_refused, Verdict}
 use Rattle.tie_rules.specs.Ties.{rule_of}
 use Rattle.string_set.specs.Readers.{lone}
 use Rattle.column_file.specs.declared.settings.Settings.{Settings}
@@ -19,14 +17,14 @@ settings_at pre post rule =
 -- 3: other than three bytes, or a tie rule above 1
 unfoldable pub settings_of : List ℕ → Result Settings
 settings_of bs =
-    if eqb (length bs) 3 && leb (byte_at bs 2) 1 then accepted (settings_at (byte_at bs 0) (byte_at bs 1) (byte_at bs 2))
-    else refused BadSettings
+    if eqb (length bs) 3 && leb (byte_at bs 2) 1 then Ok (settings_at (byte_at bs 0) (byte_at bs 1) (byte_at bs 2))
+    else Err BadSettings
 
 -- 4: a quality of 255, beside any base
 unfoldable pub observation_verdict : Observation → Verdict
 observation_verdict o =
-    if eqb o.quality 255 then Refused AbsentQuality
-    else Sound
+    if eqb o.quality 255 then Err AbsentQuality
+    else Ok tt
 
 -- the first faulty observation of a column decides
 unfoldable pub column_verdict : List Observation → Verdict
@@ -56,7 +54,7 @@ read_file s = and_then (lone sections s) file_of
 
 -- the settings with the number of columns
 unfoldable pub read_settings : List ℕ → Result (Settings × ℕ)
-read_settings s = and_then (lone announced s) (λ a. and_then (settings_of a.0) (λ g. accepted (g, a.1)))
+read_settings s = and_then (lone announced s) (λ a. and_then (settings_of a.0) (λ g. Ok (g, a.1)))
 
 -- one column
 unfoldable pub read_column : List ℕ → Result (List Observation)

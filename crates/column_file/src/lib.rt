@@ -6,6 +6,6 @@ mod columns;
 mod file;
 mod settings;
 
-pub use columns::{ColumnPlace, ColumnReading, column_at, read_column};
-pub use file::{Places, Reading, read};
-pub use settings::{Settings, SettingsReading, read_settings};
+pub use columns::{ColumnPlace, Columns, column_at, read_column};
+pub use file::{Places, read};
+pub use settings::{Settings, read_settings};

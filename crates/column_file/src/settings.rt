@@ -1,101 +1,63 @@
 // The settings of a file, with the number of columns that follow.
-ghost use Rattle.std.specs.Prelude.{◌≡◌, ◌+◌, ◌≤◌, ◌<◌, length, take, drop};
-ghost use Rattle.words.specs.Lists.{byte_at};
+ghost use Rattle.std.specs.Prelude.{◌≡◌, MatchOption};
 ghost use Rattle.refusals.specs.Refusals.{number_in};
+ghost use Rattle.string_set.specs.Readers.{taken, short};
+ghost use Rattle.column_file.specs.Format.{announced};
 ghost use Rattle.column_file.specs.Reading.{settings_of, read_settings};
-ghost use Rattle.column_file.specs.Places.{head_of, settled_of, settings_reading_of, settings_number, word_at};
 
+use crate::columns::first_word;
 use phred::PhredScore;
 use refusals::Refusal;
-use tie_rules::{TieRule, rule_of};
-use widths::wide;
+use tie_rules::TieRule;
 
-#[derive(Clone, Copy)]
+#[derive(Clone, Copy, Debug, PartialEq, Eq)]
 pub struct Settings {
     pub error_rate_pre_umi: PhredScore,
     pub error_rate_post_umi: PhredScore,
     pub tie_rule: TieRule,
 }
 
-// Refused, or the settings and the number of columns that they announce.
-#[derive(Clone, Copy)]
-pub enum SettingsReading {
-    Refused(Refusal),
-    Accepted(Settings, usize),
+impl Settings {
+    // Of three bytes, with a rule that is one.
+    pub(crate) fn of(bytes: &[u8]) -> Result<Settings, Refusal>
+        ensures { result ≡ settings_of bytes.now }
+    {
+        let [pre, post, rule] = bytes else {
+            return Err(Refusal::BadSettings);
+        };
+        if *rule > 1 {
+            return Err(Refusal::BadSettings);
+        }
+        Ok(Settings {
+            error_rate_pre_umi: PhredScore(*pre),
+            error_rate_post_umi: PhredScore(*post),
+            tie_rule: TieRule::from(*rule),
+        })
+    }
 }
 
-// Where the first column is, and how many there are.
-#[derive(Clone, Copy)]
-pub enum Head {
-    At(usize, usize),
-    Past,
-}
-
-// The settings, where they are three and the rule is one.
-#[derive(Clone, Copy)]
-pub enum Settled {
-    Refused(Refusal),
-    Accepted(Settings),
-}
-
-// The two-byte count at a place, low byte first.
-pub(crate) fn word_at(file: &[u8], at: usize) -> usize
-    requires { at + 2 ≤ length file.now }
-    ensures value { result ≡ word_at file.now at }
-    ensures upper_bound { result < 65536 }
+// The bytes of the settings at the front, the number of columns, and what follows it.
+pub(crate) fn announced(bytes: &[u8]) -> Option<(&[u8], usize, &[u8])>
+    ensures { MatchOption result (announced bytes.now ≡ short) (λ p. announced bytes.now ≡ taken (p.0.now, p.1) p.2.now) }
 {
-    wide(file[at]) + 256 * wide(file[at + 1])
-}
-
-pub(crate) fn head_of(file: &[u8]) -> Head
-    ensures { result ≡ head_of file.now }
-{
-    if file.len() == 0 {
-        return Head::Past;
-    }
-    let n = wide(file[0]);
-    if file.len() < 3 + n {
-        return Head::Past;
-    }
-    Head::At(3 + n, word_at(file, 1 + n))
-}
-
-pub(crate) fn settled_at(file: &[u8]) -> Settled
-    requires { 3 + byte_at file.now 0 ≤ length file.now }
-    ensures { result ≡ settled_of (settings_of (take (byte_at file.now 0) (drop 1 file.now))) }
-{
-    if file[0] != 3 {
-        return Settled::Refused(Refusal::BadSettings);
-    }
-    let rule = file[3];
-    if 1 < rule {
-        return Settled::Refused(Refusal::BadSettings);
-    }
-    Settled::Accepted(Settings {
-        error_rate_pre_umi: PhredScore(file[1]),
-        error_rate_post_umi: PhredScore(file[2]),
-        tie_rule: rule_of(rule),
-    })
+    let (settings, rest) = string_set::counted_bytes(bytes)?;
+    let (count, rest) = first_word(rest)?;
+    Some((settings, count, rest))
 }
 
 // Reads settings and the number of columns that follow, alone.
-pub fn read_settings(part: &[u8]) -> SettingsReading
-    ensures reading { result ≡ settings_reading_of (read_settings part.now) }
-    ensures number { settings_number result ≡ number_in (read_settings part.now) }
+pub fn read_settings(part: &[u8]) -> Result<(Settings, usize), Refusal>
+    ensures reading { result ≡ read_settings part.now }
+    ensures number { number_in result ≡ number_in (read_settings part.now) }
 {
     if string_set::LONGEST_FILE < part.len() {
-        return SettingsReading::Refused(Refusal::FileTooLong);
+        return Err(Refusal::FileTooLong);
     }
-    let start = head_of(part);
-    let Head::At(end, count) = start else {
-        return SettingsReading::Refused(Refusal::CutOff);
+    let Some((settings, count, rest)) = announced(part) else {
+        return Err(Refusal::CutOff);
     };
-    if end < part.len() {
-        return SettingsReading::Refused(Refusal::CutOff);
+    if !rest.is_empty() {
+        return Err(Refusal::CutOff);
     }
-    let tested = settled_at(part);
-    match tested {
-        Settled::Refused(refusal) => SettingsReading::Refused(refusal),
-        Settled::Accepted(settings) => SettingsReading::Accepted(settings, count),
-    }
+    Ok((Settings::of(settings)?, count))
 }

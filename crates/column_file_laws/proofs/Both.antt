@@ -1,4 +1,6 @@
 -- What is accepted has the format, and what has it is accepted: first of each kind of part, whatever bytes come after it. Assumes nothing.
+use Rattle.std.specs.Prelude.{Err, Ok}
+use Rattle.std.specs.List.{list_all}
 use mathlib.Core.Path.{◌≡◌, refl, sym, ◌∙◌, ap, subst}
 use mathlib.Core.Bool.{true}
 use mathlib.Core.List.{List, [], ◌∷◌, ◌++◌, append-nil, append_assoc}
@@ -9,21 +11,18 @@ use lib.Dec.{ltb, leb}
 use lib.ListN.{length, take-append-drop, length-append}
 use lib.Seq.{length-take-le, take-append_seam, drop-append_seam}
 use Rattle.words.proofs.Cases.{choice, both}
-use Rattle.words.specs.Lists.{every}
 use Rattle.refusals.specs.declared.Refusal.TheVariants.{FileTooLong, BadSettings}
-use Rattle.refusals.specs.declared.Verdict.{Verdict}
-use Rattle.refusals.specs.declared.Verdict.TheVariants.{Sound, Refused}
-use Rattle.refusals.specs.Result.{Result, refused, accepted, and_then, judged}
+use Rattle.refusals.specs.Result.{Result, and_then, judged, Verdict}
 use Rattle.tie_rules.specs.declared.tie_rule.TieRule.{TieRule}
 use Rattle.tie_rules.specs.declared.tie_rule.TieRule.TheVariants.{UlpRelative, FgbioCompat}
-use Rattle.tie_rules.specs.Ties.{rule_of}
+use Rattle.tie_rules.specs.Ties.{rule_of, rule_number}
 use Rattle.string_set.specs.Readers.{Taken, taken, short, next, byte, word, front, many, alone, lone, longest_file}
 use Rattle.string_set.specs.StringSet.{string, string_set}
 use Rattle.column_file.specs.declared.settings.Settings.{Settings}
 use Rattle.column_file.specs.Format.{observation, column, settings, columns, Sections, sections}
 use Rattle.column_file.specs.Reading.{settings_at, settings_of, columns_verdict, File, file_of, read_file}
 use Rattle.lent_bytes.specs.Bytes.{joined}
-use Rattle.column_file.specs.Encoding.{word_bytes, rule_number, settings_bytes, observation_bytes, column_bytes, columns_bytes, string_bytes}
+use Rattle.column_file.specs.Encoding.{word_bytes, settings_bytes, observation_bytes, column_bytes, columns_bytes, string_bytes}
 use Rattle.column_file.specs.Encoding.{string_set_bytes, file_bytes}
 use Rattle.column_file_laws.specs.Encoding.{is_byte, InFormat, BothWays}
 
@@ -46,18 +45,18 @@ after P Q (taken a r) f h k = k a r h
 
 -- P holds of what is accepted
 abbrev pub Accepting : {A : Type 0} → (A → Type 0) → Result A → Type 0
-Accepting P (refused r) = Unit {0}
-Accepting P (accepted a) = P a
+Accepting P (Err r) = Unit {0}
+Accepting P (Ok a) = P a
 
 -- from what is accepted to what goes on with it
 pub further : {A B : Type 0} (P : A → Type 0) (Q : B → Type 0) (t : Result A) (f : A → Result B) → Accepting P t → ((a : A) → P a → Accepting Q (f a))
     → Accepting Q (and_then t f)
-further P Q (refused r) f h k = tt
-further P Q (accepted a) f h k = k a h
+further P Q (Err r) f h k = tt
+further P Q (Ok a) f h k = k a h
 
-pub judged_sound : {A : Type 0} (P : A → Type 0) (v : Verdict) (a : A) → (v ≡ Sound → P a) → Accepting P (judged v a)
-judged_sound P Sound a h = h refl
-judged_sound P (Refused r) a h = tt
+pub judged_sound : {A : Type 0} (P : A → Type 0) (v : Verdict) (a : A) → (v ≡ Ok tt → P a) → Accepting P (judged v a)
+judged_sound P (Ok _) a h = h refl
+judged_sound P (Err r) a h = tt
 
 -- ---- any kind of part, by what reads it and its bytes
 
@@ -69,14 +68,14 @@ pub record Kind {A : Type 0} (one : List ℕ → Taken A) (bytes : A → List �
   -- its bytes are read back
   pub back : (a : A) (r : List ℕ) → one (bytes a ++ r) ≡ taken a r
   -- and only they are read so
-  pub off : (s : List ℕ) → every is_byte s ≡ true → Taking (Off bytes s) (one s)
+  pub off : (s : List ℕ) → list_all is_byte s ≡ true → Taking (Off bytes s) (one s)
 
 -- what is left of bytes is bytes
-end_bytes : (l r : List ℕ) → every is_byte (l ++ r) ≡ true → every is_byte r ≡ true
+end_bytes : (l r : List ℕ) → list_all is_byte (l ++ r) ≡ true → list_all is_byte r ≡ true
 end_bytes [] r h = h
-end_bytes (x ∷ l) r h = end_bytes l r (both (is_byte x) (every is_byte (l ++ r)) h).1
+end_bytes (x ∷ l) r h = end_bytes l r (both (is_byte x) (list_all is_byte (l ++ r)) h).1
 
-pub left_bytes : (l r s : List ℕ) → l ++ r ≡ s → every is_byte s ≡ true → every is_byte r ≡ true
+pub left_bytes : (l r s : List ℕ) → l ++ r ≡ s → list_all is_byte s ≡ true → list_all is_byte r ≡ true
 left_bytes l r s e h = end_bytes l r (rw e h)
 
 -- one after another
@@ -90,7 +89,7 @@ module _ {A : Type 0} (one : List ℕ → Taken A) (bytes : A → List ℕ) (k :
   abbrev OffMany : ℕ → List ℕ → List A → List ℕ → Type 0
   OffMany n s l r = (length l ≡ n) × (joined bytes l ++ r ≡ s)
 
-  many_off : (n : ℕ) (s : List ℕ) → every is_byte s ≡ true → Taking (OffMany n s) (many one n s)
+  many_off : (n : ℕ) (s : List ℕ) → list_all is_byte s ≡ true → Taking (OffMany n s) (many one n s)
   unfolding many
   many_off zero s h = (refl, refl)
   many_off (suc n) s h =
@@ -115,7 +114,7 @@ module _ {A : Type 0} (number : List ℕ → Taken ℕ) (digits : ℕ → List �
 
 -- alone
 module _ {A : Type 0} (one : List ℕ → Taken A) (bytes : A → List ℕ) (k : Kind one bytes) where
-  pub lone_back : (a : A) → length (bytes a) ≤ longest_file → lone one (bytes a) ≡ accepted a
+  pub lone_back : (a : A) → length (bytes a) ≤ longest_file → lone one (bytes a) ≡ Ok a
   lone_back a h =
       let e : one (bytes a) ≡ taken a [] = rw (append-nil (bytes a)) at (k.back a []) in
       rw (le-ltb longest_file (length (bytes a)) h, e)
@@ -129,9 +128,9 @@ module _ {A : Type 0} (one : List ℕ → Taken A) (bytes : A → List ℕ) (k :
   alone_off s h (taken a []) e = (sym (append-nil (bytes a)) ∙ e, h)
   alone_off s h (taken a (x ∷ r)) e = tt
 
-  pub lone_off : (s : List ℕ) → every is_byte s ≡ true → Accepting (Whole s) (lone one s)
+  pub lone_off : (s : List ℕ) → list_all is_byte s ≡ true → Accepting (Whole s) (lone one s)
   lone_off s h =
-      choice (Accepting (Whole s)) (ltb longest_file (length s)) (refused FileTooLong) (alone (one s))
+      choice (Accepting (Whole s)) (ltb longest_file (length s)) (Err FileTooLong) (alone (one s))
       (λ e. tt)
       (λ e. alone_off s (ltb-false longest_file (length s) e) (one s) (k.off s h))
 
@@ -144,7 +143,7 @@ byte_kind : Kind byte byte_bytes
 unfolding byte
 byte_kind = record { back = λ n r. refl; off = off }
   where
-    off : (s : List ℕ) → every is_byte s ≡ true → Taking (Off byte_bytes s) (byte s)
+    off : (s : List ℕ) → list_all is_byte s ≡ true → Taking (Off byte_bytes s) (byte s)
     off [] h = tt
     off (n ∷ r) h = refl
 
@@ -159,11 +158,11 @@ pub word_kind : Kind word word_bytes
 unfolding word byte
 word_kind = record { back = λ n r. ap (λ (m : ℕ). taken m r) (omega arith); off = off }
   where
-    off : (s : List ℕ) → every is_byte s ≡ true → Taking (Off word_bytes s) (word s)
+    off : (s : List ℕ) → list_all is_byte s ≡ true → Taking (Off word_bytes s) (word s)
     off [] h = tt
     off (a ∷ []) h = tt
     off (a ∷ b ∷ r) h =
-        let small : a < 256 = ltb-true a 256 (both (is_byte a) (every is_byte (b ∷ r)) h).0 in
+        let small : a < 256 = ltb-true a 256 (both (is_byte a) (list_all is_byte (b ∷ r)) h).0 in
         rw (low_byte a b small, high_byte a b small)
 
 string_kind : Kind string string_bytes
@@ -173,7 +172,7 @@ string_kind = record { back = back; off = off }
     back : (t r : List ℕ) → string (string_bytes t ++ r) ≡ taken t r
     back t r = rw (le-leb (length t) (length (t ++ r)) (rw (length-append t r) (omega arith)), take-append_seam t r, drop-append_seam t r)
 
-    off : (s : List ℕ) → every is_byte s ≡ true → Taking (Off string_bytes s) (string s)
+    off : (s : List ℕ) → list_all is_byte s ≡ true → Taking (Off string_bytes s) (string s)
     off [] h = tt
     off (n ∷ s) h =
         choice (Taking (Off string_bytes (n ∷ s))) (leb n (length s)) _ _
@@ -188,7 +187,7 @@ observation_kind : Kind observation observation_bytes
 unfolding observation byte
 observation_kind = record { back = λ o r. refl; off = off }
   where
-    off : (s : List ℕ) → every is_byte s ≡ true → Taking (Off observation_bytes s) (observation s)
+    off : (s : List ℕ) → list_all is_byte s ≡ true → Taking (Off observation_bytes s) (observation s)
     off [] h = tt
     off (b ∷ []) h = tt
     off (b ∷ q ∷ r) h = refl
@@ -221,7 +220,7 @@ sections_kind = record { back = back; off = off }
         rw (append_assoc a (b ++ c) r, append_assoc b c r)
         (rw (settings_kind.back f.settings (b ++ (c ++ r)), columns_kind.back f.columns (c ++ r), set_kind.back f.strings r))
 
-    off : (s : List ℕ) → every is_byte s ≡ true → Taking (Off sections_bytes s) (sections s)
+    off : (s : List ℕ) → list_all is_byte s ≡ true → Taking (Off sections_bytes s) (sections s)
     off s h =
         after (Off string_bytes s) (Off sections_bytes s) (settings s) _ (settings_kind.off s h)
         (λ a t d. let ht = left_bytes (string_bytes a) t s d h in
@@ -241,7 +240,7 @@ number_back (suc n) h =
     let e : n ≡ 0 = omega arith in
     rw e
 
-pub settings_back : (g : Settings) → settings_of (g.error_rate_pre_umi.0 ∷ g.error_rate_post_umi.0 ∷ rule_number g.tie_rule ∷ []) ≡ accepted g
+pub settings_back : (g : Settings) → settings_of (g.error_rate_pre_umi.0 ∷ g.error_rate_post_umi.0 ∷ rule_number g.tie_rule ∷ []) ≡ Ok g
 unfolding settings_of
 settings_back g = rw ((rule_back g.tie_rule).0, (rule_back g.tie_rule).1)
 
@@ -251,14 +250,14 @@ settings_off [] = tt
 settings_off (a ∷ []) = tt
 settings_off (a ∷ b ∷ []) = tt
 settings_off (a ∷ b ∷ c ∷ []) =
-    choice (Accepting (λ g. settings_bytes g ≡ string_bytes (a ∷ b ∷ c ∷ []))) (leb c 1) (accepted (settings_at a b c)) (refused BadSettings)
+    choice (Accepting (λ g. settings_bytes g ≡ string_bytes (a ∷ b ∷ c ∷ []))) (leb c 1) (Ok (settings_at a b c)) (Err BadSettings)
     (λ e. rw (number_back c (leb-true c 1 e)))
     (λ e. tt)
 settings_off (a ∷ b ∷ c ∷ d ∷ r) = rw (ne_eqb (length (a ∷ b ∷ c ∷ d ∷ r)) 3 (λ e. omega (arith, e))) tt
 
 -- ---- the file
 
-file_back : (f : File) → length (file_bytes f) ≤ longest_file → columns_verdict f.columns ≡ Sound → read_file (file_bytes f) ≡ accepted f
+file_back : (f : File) → length (file_bytes f) ≤ longest_file → columns_verdict f.columns ≡ Ok tt → read_file (file_bytes f) ≡ Ok f
 unfolding read_file file_of file_bytes settings_bytes string_bytes
 file_back f h v =
     let g = f.settings in
@@ -266,7 +265,7 @@ file_back f h v =
     let parts : Sections = record { settings = l; columns = f.columns; strings = f.strings } in
     rw (lone_back sections sections_bytes sections_kind parts h, settings_back g, v)
 
-file_off : (s : List ℕ) → every is_byte s ≡ true → Accepting (InFormat s) (read_file s)
+file_off : (s : List ℕ) → list_all is_byte s ≡ true → Accepting (InFormat s) (read_file s)
 unfolding read_file file_of file_bytes
 file_off s h =
     further (Whole sections sections_bytes sections_kind s) (InFormat s) (lone sections s) file_of (lone_off sections sections_bytes sections_kind s h)

@@ -1,17 +1,15 @@
 -- Conditions 1 to 4, each by itself. Assumes nothing.
+use Rattle.std.specs.List.{list_any}
 use mathlib.Core.Path.{◌≡◌, refl, ◌∙◌, ap}
 use mathlib.Core.Bool.{Bool, true, false, ◌||◌}
 use mathlib.Core.List.{List, [], ◌∷◌}
 use Prim.Native.Nat.{ℕ, ◌≤◌, ◌<◌}
 use borrow.Author.Tests.{lt-ltb, le-ltb}
 use lib.ListN.{length}
-use Rattle.words.specs.Lists.{any}
 use Rattle.refusals.specs.declared.Refusal.TheVariants.{CutOff, AbsentQuality}
-use Rattle.refusals.specs.declared.Verdict.{Verdict}
-use Rattle.refusals.specs.declared.Verdict.TheVariants.{Sound, Refused}
 use Rattle.refusals.specs.Refusals.{number_in}
-use Rattle.refusals.specs.Result.{refused, accepted, or_else, first_refused}
-use Rattle.std.specs.Prelude.{if◌then◌else◌}
+use Rattle.refusals.specs.Result.{or_else, first_refused, Verdict}
+use Rattle.std.specs.Prelude.{if◌then◌else◌, Err, Ok}
 use Rattle.string_set.specs.Readers.{alone, longest_file}
 use Rattle.column_file.specs.Format.{Observation, Sections, sections}
 use Rattle.column_file.specs.Reading.{settings_of, observation_verdict, column_verdict, columns_verdict, file_of, read_file}
@@ -20,27 +18,27 @@ use Rattle.column_file_laws.specs.Conditions.{is_settings, is_absent, FileCondit
 -- 4 by a test
 abbrev pub absent_if : Bool → Verdict
 absent_if b =
-    if b then Refused AbsentQuality
-    else Sound
+    if b then Err AbsentQuality
+    else Ok tt
 
 either : (a b : Bool) → or_else (absent_if a) (absent_if b) ≡ absent_if (a || b)
 either true b = refl
 either false b = refl
 
 -- of a list whose parts are refused by a test
-first_absent : {A : Type 0} (verdict : A → Verdict) (p : A → Bool) → ((a : A) → verdict a ≡ absent_if (p a)) → (l : List A) → first_refused verdict l ≡ absent_if (any p l)
+first_absent : {A : Type 0} (verdict : A → Verdict) (p : A → Bool) → ((a : A) → verdict a ≡ absent_if (p a)) → (l : List A) → first_refused verdict l ≡ absent_if (list_any p l)
 first_absent verdict p h [] = refl
-first_absent verdict p h (a ∷ l) = rw (h a, first_absent verdict p h l) (either (p a) (any p l))
+first_absent verdict p h (a ∷ l) = rw (h a, first_absent verdict p h l) (either (p a) (list_any p l))
 
-pub column_absent : (c : List Observation) → column_verdict c ≡ absent_if (any is_absent c)
+pub column_absent : (c : List Observation) → column_verdict c ≡ absent_if (list_any is_absent c)
 unfolding column_verdict observation_verdict
 column_absent c = first_absent observation_verdict is_absent (λ o. refl) c
 
-columns_absent : (cs : List (List Observation)) → columns_verdict cs ≡ absent_if (any (any is_absent) cs)
+columns_absent : (cs : List (List Observation)) → columns_verdict cs ≡ absent_if (list_any (list_any is_absent) cs)
 unfolding columns_verdict
-columns_absent cs = first_absent column_verdict (any is_absent) column_absent cs
+columns_absent cs = first_absent column_verdict (list_any is_absent) column_absent cs
 
-module _ (s : List ℕ) (h : length s ≤ longest_file) (f : Sections) (e : alone (sections s) ≡ accepted f) where
+module _ (s : List ℕ) (h : length s ≤ longest_file) (f : Sections) (e : alone (sections s) ≡ Ok f) where
   by_sections : read_file s ≡ file_of f
   unfolding read_file
   by_sections = rw (le-ltb longest_file (length s) h, e)
@@ -49,11 +47,11 @@ module _ (s : List ℕ) (h : length s ≤ longest_file) (f : Sections) (e : alon
   unfolding file_of settings_of
   three k = rw k
 
-  four : is_settings f.settings ≡ true → any (any is_absent) f.columns ≡ true → number_in (file_of f) ≡ 4
+  four : is_settings f.settings ≡ true → list_any (list_any is_absent) f.columns ≡ true → number_in (file_of f) ≡ 4
   unfolding file_of settings_of
   four k a = rw (k, columns_absent f.columns, a)
 
-  none : is_settings f.settings ≡ true → any (any is_absent) f.columns ≡ false → number_in (file_of f) ≡ 0
+  none : is_settings f.settings ≡ true → list_any (list_any is_absent) f.columns ≡ false → number_in (file_of f) ≡ 0
   unfolding file_of settings_of
   none k a = rw (k, columns_absent f.columns, a)
 
@@ -61,7 +59,7 @@ one : (s : List ℕ) → longest_file < length s → number_in (read_file s) ≡
 unfolding read_file
 one s h = rw (lt-ltb longest_file (length s) h)
 
-two : (s : List ℕ) → length s ≤ longest_file → alone (sections s) ≡ refused CutOff → number_in (read_file s) ≡ 2
+two : (s : List ℕ) → length s ≤ longest_file → alone (sections s) ≡ Err CutOff → number_in (read_file s) ≡ 2
 unfolding read_file
 two s h e = rw (le-ltb longest_file (length s) h, e)
 

@@ -1,7 +1,8 @@
 -- How long a text can be. Assumes nothing.
+use Rattle.std.specs.Prelude.{Ok}
 use mathlib.Core.Path.{◌≡◌}
 use mathlib.Core.Bool.{Bool, true, false, ◌&&◌}
-use mathlib.Core.List.{List, [], ◌∷◌, map}
+use mathlib.Core.List.{List, [], ◌∷◌, ◌++◌, map, append-nil}
 use Prim.Native.Nat.{ℕ, ◌+◌, ◌*◌, ◌≤◌, ◌<◌}
 use native.Mathlib.Omega.{arith}
 use borrow.Author.Tests.{leb-true, eqb-true}
@@ -9,7 +10,7 @@ use lib.Dec.{leb, eqb}
 use lib.Ieee.Bits.{is_true}
 use lib.ListN.{length, length-append}
 use Rattle.words.proofs.Cases.{test, both}
-use Rattle.refusals.specs.Result.{accepted}
+use Rattle.lent_bytes.proofs.Joined.{joined_append}
 use Rattle.lent_text.proofs.Decimal.{decimal_length}
 use Rattle.tie_rules.specs.Lanes.{counted}
 use Rattle.lane_calls.specs.declared.call.Call.{Call}
@@ -19,17 +20,13 @@ use Rattle.base_builder_laws.proofs.GoodCalls.{good_calls}
 use Rattle.base_builder.specs.History.{after}
 use Rattle.base_builder_laws.proofs.Laws.{laws}
 use Rattle.umi_groups.specs.Found.{Found}
-use Rattle.column_file.specs.declared.file.Places.{Places}
 use Rattle.column_file.specs.declared.settings.Settings.{Settings}
 use Rattle.column_file.specs.Format.{Observation}
 use Rattle.column_file.specs.Reading.{File, read_file}
 use Rattle.column_calls.specs.Columns.{event_of, builder_of_column, column_call}
-use Rattle.column_file.proofs.Readings.{FileAt}
-use Rattle.listing_lines.specs.Lines.{line_of, column_line, column_lines, umi_line, text_of}
+use Rattle.listing_lines.specs.Lines.{header, line_of, column_line, column_lines, umi_line, text_of}
 use Rattle.column_listing.specs.Listing.{lines_of}
-use Rattle.column_listing.specs.Places.{places_text}
 use Rattle.column_file.proofs.Files.{two_each, columns_inside, file_size}
-use Rattle.column_listing.proofs.Texts.{text_parts, text_is}
 
 -- of a call's line, where its number is below 100,000, its quality below 100 and its counts together, the depth, a 32-bit number
 pub line_length : (i : ℕ) (call : Call) (counts : List ℕ) → i < 100000 → call.qual.0 < 100 → total counts ≤ 4294967295 → length (line_of i call counts) ≤ 70
@@ -81,18 +78,16 @@ unfolding umi_line
 umi_length text true = simp length-append (omega arith)
 umi_length text false = simp length-append (omega arith)
 
+-- all lines of a file, by the three parts of its text
+pub lines_parts : (f : File) (u : Found) → text_of (lines_of f u) ≡ header ++ text_of (column_lines 1 f.settings f.columns) ++ umi_line u.text u.had_errors
+unfolding lines_of
+lines_parts f u = rw (joined_append (λ l. l) (column_lines 1 f.settings f.columns) (umi_line u.text u.had_errors ∷ []), append-nil (umi_line u.text u.had_errors))
+
 -- of all lines of an accepted file
-pub text_length : (s : List ℕ) (f : File) (u : Found) → read_file s ≡ accepted f → length (text_of (lines_of f u)) ≤ 45 + 70 * length f.columns + length u.text
+pub text_length : (s : List ℕ) (f : File) (u : Found) → read_file s ≡ Ok f → length (text_of (lines_of f u)) ≤ 45 + 70 * length f.columns + length u.text
 text_length s f u e =
     let i = columns_inside s f e in
     let n = file_size s f e in
     let two = two_each f.columns in
-    rw (text_parts f u)
+    rw (lines_parts f u)
     (simp length-append (omega (arith, columns_length f.settings 1 f.columns (omega arith), umi_length u.text u.had_errors)))
-
--- and so by the places, with a string of at most 255 bytes
-pub places_length : (s : List ℕ) (p : Places) (a : FileAt (read_file s) p) (u : Found) → length u.text ≤ 255
-    → length (places_text p s u.text u.had_errors) ≤ 300 + 70 * p.count
-places_length s p a u h =
-    let n : p.count ≡ length a.file.columns = rw a.places in
-    rw (text_is s p a u) (omega (arith, text_length s a.file u a.is))

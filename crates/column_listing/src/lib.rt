@@ -3,4 +3,4 @@
 
 mod listing;
 
-pub use listing::{Listing, list, print};
+pub use listing::{list, print};

@@ -20,7 +20,8 @@ use Rattle.column_file.specs.declared.settings.Settings.{Settings}
 use Rattle.column_file.specs.Format.{Observation}
 use Rattle.column_file.specs.Places.{columns_size}
 use Rattle.column_file.proofs.Files.{columns_inside, file_size}
-use Rattle.column_calls.specs.Columns.{event_of, start_of, builder_of_column, column_call, called_column}
+use Rattle.column_calls.specs.Start.{start_of}
+use Rattle.column_calls.specs.Columns.{event_of, builder_of_column, column_call, called_column}
 use Rattle.listing_lines.specs.Lines.{depth_of}
 use Rattle.column_listing_laws.specs.Depth.{contributing, DepthLaws, FileDepths}
 

@@ -1,4 +1,5 @@
 -- One line for each column, the header and the line of the strings. Assumes nothing.
+use Rattle.std.specs.List.{list_any}
 use mathlib.Core.Path.{◌≡◌, refl, ◌∙◌, ap}
 use mathlib.Core.Bool.{Bool, true, false, ◌&&◌}
 use mathlib.Core.List.{List, [], ◌∷◌, ◌++◌}
@@ -11,7 +12,7 @@ use lib.Ieee.Bits.{is_true}
 use lib.ListN.{length, get_or, length-append, get_or-append}
 use lib.Seq.{get_or-append_seam}
 use Rattle.words.proofs.Cases.{test, both, clash, refuted}
-use Rattle.words.specs.Lists.{any, last_or}
+use Rattle.words.specs.Lists.{last_or}
 use Rattle.words.proofs.Tests.{none_by_every}
 use Rattle.lent_text.specs.Text.{letters, newline, space, decimal, is_digit, line}
 use Rattle.lent_text.proofs.Decimal.{decimal-digits}
@@ -30,14 +31,14 @@ use Rattle.column_listing_laws.specs.Laws.{is_newline, is_line, line_at, OneLine
 
 -- ---- fields without a newline make one line
 
-line_after : (a b : List ℕ) → any is_newline a ≡ false → is_line b ≡ true → is_line (a ++ b) ≡ true
+line_after : (a b : List ℕ) → list_any is_newline a ≡ false → is_line b ≡ true → is_line (a ++ b) ≡ true
 line_after [] b h k = k
 line_after (x ∷ a) b h k = test (is_newline x) (λ e. clash (rw e at h) refl) (λ e. rw e (line_after a b (rw e at h) k))
 
 -- no field has one
 abbrev pub Plain : List (List ℕ) → Type 0
 Plain [] = Unit {0}
-Plain (f ∷ fs) = (any is_newline f ≡ false) × Plain fs
+Plain (f ∷ fs) = (list_any is_newline f ≡ false) × Plain fs
 
 pub line_one : (fs : List (List ℕ)) → Plain fs → is_line (line fs) ≡ true
 line_one [] h = refl
@@ -48,14 +49,14 @@ line_one (f ∷ g ∷ fs) h = line_after f (space ∷ line (g ∷ fs)) h.0 (line
 digit_other : (x : ℕ) → is_digit x ≡ true → is_newline x ≡ false
 digit_other x h = ne_eqb x newline (λ e. omega (arith, leb-true 48 x (both (leb 48 x) (leb x 57) h).0))
 
-pub decimal_plain : (n : ℕ) → any is_newline (decimal n) ≡ false
+pub decimal_plain : (n : ℕ) → list_any is_newline (decimal n) ≡ false
 decimal_plain n = none_by_every is_digit is_newline digit_other (decimal n) (decimal-digits n)
 
 -- nor is the base of a call
 base_other : (x : ℕ) → is_called_base x ≡ true → is_newline x ≡ false
 base_other x h = refuted (is_newline x) (λ e. clash (ap is_called_base (eqb-true x newline e)) h)
 
-call_plain : (c : Call) → is_call c ≡ true → any is_newline (c.base ∷ []) ≡ false
+call_plain : (c : Call) → is_call c ≡ true → list_any is_newline (c.base ∷ []) ≡ false
 unfolding is_call
 call_plain c h =
     let q = c.qual.0 in
@@ -106,11 +107,11 @@ header_line = refl
 
 -- ---- the last line
 
-flag_plain : (b : Bool) → any is_newline (flag b) ≡ false
+flag_plain : (b : Bool) → list_any is_newline (flag b) ≡ false
 flag_plain true = refl
 flag_plain false = refl
 
-umi_line_lem : (text : List ℕ) (b : Bool) → any is_newline text ≡ false → is_line (umi_line text b) ≡ true
+umi_line_lem : (text : List ℕ) (b : Bool) → list_any is_newline text ≡ false → is_line (umi_line text b) ≡ true
 unfolding umi_line
 umi_line_lem text b h = line_one (letters "umi" ∷ text ∷ flag b ∷ []) (refl, (h, (flag_plain b, tt)))
 

@@ -1,4 +1,5 @@
 -- No listing is empty, and `longest_listing` bytes hold it, that of a file and of any list of numbers. Assumes nothing.
+use Rattle.std.specs.Prelude.{Err, Ok}
 use mathlib.Core.Path.{◌≡◌, refl, sym, ◌∙◌, ap, subst}
 use mathlib.Core.List.{List, [], ◌∷◌}
 use Prim.Native.Nat.{ℕ, zero, suc, ◌+◌, ◌≤◌, ◌<◌}
@@ -7,9 +8,7 @@ use lib.Dec.{leb, ltb}
 use lib.ListN.{length, take, drop, length-take, length-drop}
 use Rattle.words.proofs.Cases.{choice}
 use Rattle.refusals.specs.declared.Refusal.{Refusal}
-use Rattle.refusals.specs.declared.Verdict.{Verdict}
-use Rattle.refusals.specs.declared.Verdict.TheVariants.{Sound, Refused}
-use Rattle.refusals.specs.Result.{Result, refused, accepted, and_then, judged}
+use Rattle.refusals.specs.Result.{Result, and_then, judged, Verdict}
 use Rattle.string_set.specs.Readers.{Taken, taken, short, next, byte, front, many, alone, longest_file}
 use Rattle.string_set.specs.StringSet.{string, string_set, read_set}
 use Rattle.simple_consensus.specs.declared.caller.SimpleConsensusCaller.{SimpleConsensusCaller}
@@ -72,8 +71,8 @@ first_set (n ∷ r) = weaker (length r) (many string n r) (first_many n r)
 
 -- the same of a set's answer
 abbrev Read : ℕ → Result (List (List ℕ)) → Type 0
-Read m (refused r) = Unit {0}
-Read m (accepted l) = length (first_of l) ≤ m
+Read m (Err r) = Unit {0}
+Read m (Ok l) = length (first_of l) ≤ m
 
 first_alone : (m : ℕ) (q : Taken (List (List ℕ))) → First m q → Read m (alone q)
 first_alone m short h = tt
@@ -87,9 +86,9 @@ first_read s = choice (Read (length s)) (ltb longest_file (length s)) _ _ (λ h.
 -- ---- the consensus is as long as the first string
 
 answer_length_lem : (c : SimpleConsensusCaller) (strings : List (List ℕ)) (v : Verdict) (u : Found)
-    → judged v (found c strings) ≡ accepted u → length u.text ≡ length (first_of strings)
-answer_length_lem c strings (Refused r) u e = no_refusal e
-answer_length_lem c strings Sound u e =
+    → judged v (found c strings) ≡ Ok u → length u.text ≡ length (first_of strings)
+answer_length_lem c strings (Err r) u e = no_refusal e
+answer_length_lem c strings (Ok _) u e =
     let same : found c strings ≡ u = cc in
     ap (λ (x : Found). length x.text) (sym same) ∙ (answered c strings).as_long
 
@@ -103,7 +102,7 @@ by_refusal : (r : Refusal) → Short (refusal_line r)
 by_refusal r = (refusal_some r, omega (arith, refusal_length r))
 
 module _ (s : List ℕ) where
-  pub consensus_length : (f : File) (u : Found) → read_file s ≡ accepted f → consensus_of default_caller f.strings ≡ accepted u
+  pub consensus_length : (f : File) (u : Found) → read_file s ≡ Ok f → consensus_of default_caller f.strings ≡ Ok u
       → columns_size f.columns + length u.text ≤ longest_file
   consensus_length f u e k =
       let at = head_size + columns_size f.columns in
@@ -117,10 +116,10 @@ module _ (s : List ℕ) where
         file_size s f e,
       )
 
-  by_judged : (t : Result Judged) → judge_file s ≡ t → Short (printed (and_then t (λ j. accepted (text_of (lines_of j.file j.found)))))
+  by_judged : (t : Result Judged) → judge_file s ≡ t → Short (printed (and_then t (λ j. Ok (text_of (lines_of j.file j.found)))))
   unfolding lines_of
-  by_judged (refused r) e = by_refusal r
-  by_judged (accepted j) e =
+  by_judged (Err r) e = by_refusal r
+  by_judged (Ok j) e =
       let f = j.file in
       let u = j.found in
       let parts = judged_parts s j e in

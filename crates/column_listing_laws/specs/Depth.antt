@@ -1,7 +1,5 @@
 -- The depth of a column, by the bytes of its observations.
-use Rattle.std.specs.Prelude.{◌≡◌, List, map, ℕ, ◌≤◌, length}
-use Rattle.words.specs.Lists.{keep}
-use Rattle.refusals.specs.Result.{accepted}
+use Rattle.std.specs.Prelude.{◌≡◌, List, map, ℕ, ◌≤◌, length, Ok, filter}
 use Rattle.tie_rules.specs.Lanes.{is_base}
 use Rattle.base_builder.specs.Builder.{full_count}
 use Rattle.column_file.specs.declared.settings.Settings.{Settings}
@@ -12,7 +10,7 @@ use Rattle.listing_lines.specs.Lines.{depth_of}
 
 -- the observations of a base, A, C, G or T in either case
 abbrev pub contributing : List Observation → List Observation
-contributing c = keep (λ o. is_base o.base) c
+contributing c = filter (λ o. is_base o.base) c
 
 pub record DepthLaws (g : Settings) (c : List Observation) : Type 0 where
   -- the depth is how many they are
@@ -23,5 +21,5 @@ pub record DepthLaws (g : Settings) (c : List Observation) : Type 0 where
 -- in every accepted file the depth of each column is how many of its observations are of a base
 abbrev pub FileDepths : Type 0
 FileDepths =
-    (s : List ℕ) (f : File) → read_file s ≡ accepted f
+    (s : List ℕ) (f : File) → read_file s ≡ Ok f
     → map (λ c. depth_of (builder_of_column f.settings c).observations) f.columns ≡ map (λ c. length (contributing c)) f.columns

@@ -1,7 +1,8 @@
 -- What holds of the lines of every file, and how long its listing is.
+use Rattle.std.specs.List.{list_any}
 use Rattle.std.specs.Prelude.{◌≡◌, Bool, true, false, List, [], ◌∷◌, ℕ, ◌+◌, ◌≤◌, ◌<◌, eqb, length, get_or}
 use Rattle.std.specs.Prelude.{if◌then◌else◌}
-use Rattle.words.specs.Lists.{any, last_or, is_empty}
+use Rattle.words.specs.Lists.{last_or, is_empty}
 use Rattle.lent_text.specs.Text.{newline}
 use Rattle.umi_groups.specs.Found.{Found}
 use Rattle.column_file.specs.Reading.{File}
@@ -30,7 +31,7 @@ pub record OneLineEach (f : File) (u : Found) : Type 0 where
   -- the last ends in a newline
   pub ends : last_or 0 (line_at f u (length f.columns + 1)) ≡ newline
   -- and is one line unless the consensus itself has a newline, whose bytes are free
-  pub last_line : any is_newline u.text ≡ false → is_line (line_at f u (length f.columns + 1)) ≡ true
+  pub last_line : list_any is_newline u.text ≡ false → is_line (line_at f u (length f.columns + 1)) ≡ true
 
 -- this number of bytes holds every listing
 abbrev pub longest_listing : ℕ

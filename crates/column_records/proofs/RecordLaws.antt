@@ -1,15 +1,16 @@
 -- Records one column at a time, and how long they are. Assumes nothing.
 use mathlib.Core.Path.{◌≡◌, refl}
-use mathlib.Core.List.{List, [], ◌++◌}
-use Prim.Native.Nat.{ℕ, ◌+◌, ◌-◌, ◌*◌, ◌≤◌, ◌<◌}
+use mathlib.Core.List.{List, [], ◌∷◌, ◌++◌, append_assoc}
+use Prim.Native.Nat.{ℕ, ◌-◌, ◌*◌, ◌/◌}
+use native.Mathlib.Omega.{arith}
 use lib.ListN.{length}
-use Rattle.lent_bytes.specs.Bytes.{number_bytes}
+use Rattle.lent_bytes.specs.Bytes.{joined, number_bytes, four_bytes}
 use Rattle.lent_bytes.proofs.Joined.{joined_length}
-use Rattle.column_file.specs.declared.columns.ColumnPlace.TheVariants.{At, Past}
 use Rattle.column_file.specs.Format.{Observation}
-use Rattle.column_file.specs.Places.{column_at, columns_at}
-use Rattle.column_file.proofs.ColumnParts.{part_of, part_length, columns_more, columns_past, columns_none}
+use Rattle.column_file.specs.Places.{observations_in}
 use Rattle.column_calls.specs.declared.columns.ColumnCall.{ColumnCall}
+use Rattle.tie_rules.specs.Lanes.{counted}
+use Rattle.listing_lines.specs.Lines.{depth_of}
 use Rattle.column_records.specs.Records.{record_of, records_with}
 
 -- 28 bytes each
@@ -21,25 +22,35 @@ pub records_length : (called : List Observation → ColumnCall) (cs : List (List
 unfolding records_with
 records_length called cs = joined_length _ 28 (λ c. record_length (called c) (length c)) cs
 
--- n columns from a place on, by what is called of each
-module _ (called : List Observation → ColumnCall) (s : List ℕ) (at n : ℕ) where
-  -- their records
-  abbrev left : List ℕ
-  left = records_with called (columns_at s at n)
+-- four numbers, then what follows
+fours : (ns rest : List ℕ) → length ns ≡ 4
+    → joined four_bytes ns ++ rest ≡ four_bytes (counted ns 0) ++ (four_bytes (counted ns 1) ++ (four_bytes (counted ns 2) ++ (four_bytes (counted ns 3) ++ rest)))
+fours (a ∷ c ∷ g ∷ t ∷ []) rest h = simp append_assoc
+fours [] rest h = absurd (omega arith)
+fours (a ∷ []) rest h = absurd (omega arith)
+fours (a ∷ c ∷ []) rest h = absurd (omega arith)
+fours (a ∷ c ∷ g ∷ []) rest h = absurd (omega arith)
+fours (a ∷ c ∷ g ∷ t ∷ x ∷ ns) rest h = absurd (omega arith)
 
-  -- one column more: its record, and those of the columns after it
-  pub records_more : (start k : ℕ) → 0 < n → column_at s at ≡ At start k
-      → left
-      ≡ record_of (called (part_of s start k)) k ++ records_with called (columns_at s (start + 2 * k) (n - 1))
-  unfolding records_with
-  records_more start k h e = rw (columns_more s at n start k h e, part_length s at start k e)
+-- a record from what is put one after another
+pub record_puts : (c : ColumnCall) (n : ℕ) → length c.counts ≡ 4
+    → (c.call.base ∷ c.call.qual.0 ∷ 0 ∷ 0 ∷ []) ++ (four_bytes (depth_of c.counts) ++ (joined four_bytes c.counts ++ four_bytes (n - depth_of c.counts))) ≡ record_of c n
+unfolding record_of
+record_puts c n h = rw (fours c.counts (four_bytes (n - depth_of c.counts)) h)
 
-  -- none more: the bytes do not reach
-  pub records_past : column_at s at ≡ Past → left ≡ []
-  unfolding records_with
-  records_past e = rw (columns_past s at n e)
+-- how many observations there are in so many bytes
+pub observations_count : (s : List ℕ) → length s / 2 ≡ length (observations_in s)
+unfolding observations_in
+observations_count [] = refl
+observations_count (x ∷ []) = refl
+observations_count (x ∷ y ∷ s) = omega (arith, observations_count s)
 
-  -- none more: no column is left
-  pub records_none : n ≤ 0 → left ≡ []
-  unfolding records_with
-  records_none h = rw (columns_none s at n h)
+-- the records of a column and of those after it
+pub records_next : (called : List Observation → ColumnCall) (c : List Observation) (rest cs : List (List Observation)) → cs ≡ c ∷ rest
+    → records_with called cs ≡ record_of (called c) (length c) ++ records_with called rest
+unfolding records_with
+records_next called c rest cs e = rw e
+
+pub records_none : (called : List Observation → ColumnCall) (cs : List (List Observation)) → cs ≡ [] → records_with called cs ≡ []
+unfolding records_with
+records_none called cs e = rw e

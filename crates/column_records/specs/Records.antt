@@ -1,8 +1,8 @@
 -- The records of a column file, from the file's bytes to the records' bytes.
-use Rattle.std.specs.Prelude.{ℕ, ◌-◌, List, [], ◌∷◌, ◌++◌, length}
+use Rattle.std.specs.Prelude.{ℕ, ◌-◌, List, [], ◌∷◌, ◌++◌, length, Ok}
 use Rattle.lent_bytes.specs.Bytes.{joined, four_bytes}
 use Rattle.tie_rules.specs.Lanes.{counted}
-use Rattle.refusals.specs.Result.{Result, accepted, and_then}
+use Rattle.refusals.specs.Result.{Result, and_then}
 use Rattle.column_file.specs.Format.{Observation}
 use Rattle.judged_file.specs.Judged.{judge_file}
 use Rattle.column_calls.specs.declared.columns.ColumnCall.{ColumnCall}
@@ -26,7 +26,7 @@ records_with called = joined (λ c. record_of (called c) (length c))
 
 -- of a file, or the number by which it is refused
 unfoldable pub records_of : List ℕ → Result (List ℕ)
-records_of s = and_then (judge_file s) (λ j. accepted (records_with (called_column j.file.settings) j.file.columns))
+records_of s = and_then (judge_file s) (λ j. Ok (records_with (called_column j.file.settings) j.file.columns))
 
 -- with a buffer: 10 comes last
 unfoldable pub records_in : List ℕ → List ℕ → Result (List ℕ)

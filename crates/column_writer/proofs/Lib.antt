@@ -1,2 +1,1 @@
-pub mod NextStages
 pub mod Said

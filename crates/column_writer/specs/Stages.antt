@@ -1,14 +1,12 @@
 -- Whose turn it is: the settings, the announced columns, the string set, the finish; and what comes after a part.
-use Rattle.std.specs.Prelude.{ℕ, ◌-◌, Bool, true, false, List, eqb, ltb}
-use Rattle.refusals.specs.Result.{Result, refused, accepted, and_then}
+use Rattle.std.specs.Prelude.{ℕ, ◌-◌, Bool, true, false, List, eqb, ltb, Ok}
+use Rattle.refusals.specs.Result.{Result, and_then}
 use Rattle.string_set.specs.StringSet.{read_set}
 use Rattle.column_file.specs.Reading.{read_settings, read_column}
 use Rattle.column_writer.specs.declared.stages.Stage.{Stage}
 use Rattle.column_writer.specs.declared.stages.Stage.TheVariants.{AwaitsSettings, AwaitsColumns, AwaitsFinish, Finished}
 use Rattle.column_writer.specs.declared.stages.PartKind.{PartKind}
 use Rattle.column_writer.specs.declared.stages.PartKind.TheVariants.{Settings as settings, Column as column, Strings as strings}
-use Rattle.column_writer.specs.declared.stages.Next.{Next}
-use Rattle.column_writer.specs.declared.stages.Next.TheVariants as next
 
 -- ---- 13: where one of these is false, the step is refused
 
@@ -34,7 +32,7 @@ awaits_finish Finished = false
 
 -- as many columns as the settings announce
 unfoldable pub after_settings : List ℕ → Result Stage
-after_settings part = and_then (read_settings part) (λ a. accepted (AwaitsColumns a.0 a.1))
+after_settings part = and_then (read_settings part) (λ a. Ok (AwaitsColumns a.0 a.1))
 
 -- one less to come
 abbrev pub one_column_less : Stage → Stage
@@ -45,19 +43,14 @@ one_column_less Finished = Finished
 
 -- so after a column
 unfoldable pub after_column : Stage → List ℕ → Result Stage
-after_column stage part = and_then (read_column part) (λ c. accepted (one_column_less stage))
+after_column stage part = and_then (read_column part) (λ c. Ok (one_column_less stage))
 
 -- after the strings the finish
 unfoldable pub after_strings : List ℕ → Result Stage
-after_strings part = and_then (read_set part) (λ l. accepted AwaitsFinish)
+after_strings part = and_then (read_set part) (λ l. Ok AwaitsFinish)
 
 -- by the kind of part
 abbrev pub next_stage : Stage → PartKind → List ℕ → Result Stage
 next_stage stage settings part = after_settings part
 next_stage stage column part = after_column stage part
 next_stage stage strings part = after_strings part
-
--- as the code has it
-abbrev pub next_of : Result Stage → Next
-next_of (refused r) = next.Refused r
-next_of (accepted stage) = next.Stage stage

@@ -6,4 +6,4 @@ mod stages;
 mod writer;
 
 pub use stages::{PartKind, Stage};
-pub use writer::{StepAnswer, Stepped, Writer};
+pub use writer::Writer;

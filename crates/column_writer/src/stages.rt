@@ -1,12 +1,12 @@
 // The stages of a file that is being written: whose turn it is, and what comes after a part.
 ghost use Rattle.std.specs.Prelude.{◌≡◌};
-ghost use Rattle.column_writer.specs.Stages.{in_turn, awaits_finish, one_column_less, after_settings, after_column, after_strings, next_stage, next_of};
+ghost use Rattle.column_writer.specs.Stages.{in_turn, awaits_finish, one_column_less, next_stage};
 
-use column_file::{ColumnReading, Settings, SettingsReading, read_column, read_settings};
+use column_file::{Settings, read_column, read_settings};
 use refusals::Refusal;
 
 // What comes next.
-#[derive(Clone, Copy)]
+#[derive(Clone, Copy, Debug, PartialEq, Eq)]
 pub enum Stage {
     AwaitsSettings,
     // So many columns more, in a file of these settings; after the last of them the string set.
@@ -16,7 +16,7 @@ pub enum Stage {
 }
 
 // The parts of a file that are lent.
-#[derive(Clone, Copy)]
+#[derive(Clone, Copy, Debug, PartialEq, Eq)]
 pub enum PartKind {
     // With the announced number of columns.
     Settings,
@@ -24,30 +24,15 @@ pub enum PartKind {
     Strings,
 }
 
-// The stage after a part, or what the part is refused by.
-#[derive(Clone, Copy)]
-pub enum Next {
-    Refused(Refusal),
-    Stage(Stage),
-}
-
 // Whether it is the turn of such a part.
 pub(crate) fn in_turn(stage: Stage, kind: PartKind) -> bool
     ensures { result ≡ in_turn stage kind }
 {
-    match stage {
-        Stage::AwaitsSettings => match kind {
-            PartKind::Settings => true,
-            PartKind::Column => false,
-            PartKind::Strings => false,
-        },
-        Stage::AwaitsColumns(_, left) => match kind {
-            PartKind::Settings => false,
-            PartKind::Column => 0 < left,
-            PartKind::Strings => left == 0,
-        },
-        Stage::AwaitsFinish => false,
-        Stage::Finished => false,
+    match (stage, kind) {
+        (Stage::AwaitsSettings, PartKind::Settings) => true,
+        (Stage::AwaitsColumns(_, left), PartKind::Column) => left > 0,
+        (Stage::AwaitsColumns(_, left), PartKind::Strings) => left == 0,
+        _ => false,
     }
 }
 
@@ -55,12 +40,7 @@ pub(crate) fn in_turn(stage: Stage, kind: PartKind) -> bool
 pub(crate) fn awaits_finish(stage: Stage) -> bool
     ensures { result ≡ awaits_finish stage }
 {
-    match stage {
-        Stage::AwaitsSettings => false,
-        Stage::AwaitsColumns(_, _) => false,
-        Stage::AwaitsFinish => true,
-        Stage::Finished => false,
-    }
+    matches!(stage, Stage::AwaitsFinish)
 }
 
 // After a column; a stage that awaits none stays.
@@ -68,58 +48,30 @@ fn one_column_less(stage: Stage) -> Stage
     ensures { result ≡ one_column_less stage }
 {
     match stage {
-        Stage::AwaitsSettings => Stage::AwaitsSettings,
         Stage::AwaitsColumns(settings, left) => {
-            if left == 0 {
-                return Stage::AwaitsColumns(settings, 0);
-            }
-            Stage::AwaitsColumns(settings, left - 1)
+            Stage::AwaitsColumns(settings, left.saturating_sub(1))
         }
-        Stage::AwaitsFinish => Stage::AwaitsFinish,
-        Stage::Finished => Stage::Finished,
-    }
-}
-
-fn after_settings(part: &[u8]) -> Next
-    ensures { result ≡ next_of (after_settings part.now) }
-{
-    let reading = read_settings(part);
-    match reading {
-        SettingsReading::Refused(refusal) => Next::Refused(refusal),
-        SettingsReading::Accepted(settings, count) => {
-            Next::Stage(Stage::AwaitsColumns(settings, count))
-        }
-    }
-}
-
-fn after_column(stage: Stage, part: &[u8]) -> Next
-    ensures { result ≡ next_of (after_column stage part.now) }
-{
-    let reading = read_column(part);
-    match reading {
-        ColumnReading::Refused(refusal) => Next::Refused(refusal),
-        ColumnReading::Accepted(_) => Next::Stage(one_column_less(stage)),
-    }
-}
-
-fn after_strings(part: &[u8]) -> Next
-    ensures { result ≡ next_of (after_strings part.now) }
-{
-    let set = string_set::read(part);
-    let reading = set.reading;
-    match reading {
-        string_set::Reading::Refused(refusal) => Next::Refused(refusal),
-        string_set::Reading::Strings(_) => Next::Stage(Stage::AwaitsFinish),
+        _ => stage,
     }
 }
 
 // After a part, as the reader judges it.
-pub(crate) fn next_stage(stage: Stage, kind: PartKind, part: &[u8]) -> Next
-    ensures { result ≡ next_of (next_stage stage kind part.now) }
+// kept: no plainer: each of the three kinds has a reader of its own and leads to a stage of its own
+pub(crate) fn next_stage(stage: Stage, kind: PartKind, part: &[u8]) -> Result<Stage, Refusal>
+    ensures { result ≡ next_stage stage kind part.now }
 {
     match kind {
-        PartKind::Settings => after_settings(part),
-        PartKind::Column => after_column(stage, part),
-        PartKind::Strings => after_strings(part),
+        PartKind::Settings => {
+            let (settings, count) = read_settings(part)?;
+            Ok(Stage::AwaitsColumns(settings, count))
+        }
+        PartKind::Column => {
+            read_column(part)?;
+            Ok(one_column_less(stage))
+        }
+        PartKind::Strings => {
+            string_set::count_strings(part)?;
+            Ok(Stage::AwaitsFinish)
+        }
     }
 }

@@ -1,4 +1,6 @@
 -- What the accepted steps are at each stage, and one step more. Assumes nothing.
+use Rattle.std.specs.Prelude.{Err, Ok}
+use Rattle.std.specs.List.{list_all}
 use mathlib.Core.Path.{◌≡◌, refl}
 use mathlib.Core.Bool.{true}
 use mathlib.Core.List.{List, [], ◌∷◌, ◌++◌, map, append_assoc, map-append}
@@ -8,10 +10,7 @@ use native.Mathlib.Omega.{arith}
 use borrow.Author.Tests.{ltb-true, eqb-true}
 use lib.ListN.{length, length-append}
 use Rattle.words.proofs.Cases.{clash}
-use Rattle.words.specs.Lists.{every}
-use Rattle.refusals.specs.declared.Verdict.{Verdict}
-use Rattle.refusals.specs.declared.Verdict.TheVariants.{Sound, Refused}
-use Rattle.refusals.specs.Result.{or_else, first_refused}
+use Rattle.refusals.specs.Result.{or_else, first_refused, Verdict}
 use Rattle.string_set.specs.StringSet.{read_set}
 use Rattle.column_file.specs.declared.settings.Settings.{Settings}
 use Rattle.column_file.specs.Format.{Observation}
@@ -31,17 +30,17 @@ use Rattle.column_writer_laws.proofs.Drafts.{read_part}
 -- ---- columns without a faulty one
 
 -- neither refuses
-pub or_sound : (v w : Verdict) → or_else v w ≡ Sound → (v ≡ Sound) × (w ≡ Sound)
-or_sound Sound w e = (refl, e)
-or_sound (Refused r) w e = absurd (let z : ◌≡◌ {A = ℕ} 0 1 = cc in omega arith)
+pub or_sound : (v w : Verdict) → or_else v w ≡ Ok tt → (v ≡ Ok tt) × (w ≡ Ok tt)
+or_sound (Ok _) w e = (refl, e)
+or_sound (Err r) w e = absurd (let z : ◌≡◌ {A = ℕ} 0 1 = cc in omega arith)
 
 -- one more
-first_sound : (cs : List (List Observation)) (c : List Observation) → first_refused column_verdict cs ≡ Sound → column_verdict c ≡ Sound
-    → first_refused column_verdict (cs ++ (c ∷ [])) ≡ Sound
+first_sound : (cs : List (List Observation)) (c : List Observation) → first_refused column_verdict cs ≡ Ok tt → column_verdict c ≡ Ok tt
+    → first_refused column_verdict (cs ++ (c ∷ [])) ≡ Ok tt
 first_sound [] c h e = rw e
 first_sound (d ∷ cs) c h e = let k = or_sound (column_verdict d) (first_refused column_verdict cs) h in rw k.0 (first_sound cs c k.1 e)
 
-columns_more : (cs : List (List Observation)) (c : List Observation) → columns_verdict cs ≡ Sound → column_verdict c ≡ Sound → columns_verdict (cs ++ (c ∷ [])) ≡ Sound
+columns_more : (cs : List (List Observation)) (c : List Observation) → columns_verdict cs ≡ Ok tt → column_verdict c ≡ Ok tt → columns_verdict (cs ++ (c ∷ [])) ≡ Ok tt
 unfolding columns_verdict
 columns_more cs c h e = first_sound cs c h e
 
@@ -54,11 +53,11 @@ begun g n cs = put settings (announced_bytes g n) ∷ map column_step cs
 -- what the accepted steps were
 abbrev pub Shape : Stage → List Step → Type 0
 Shape AwaitsSettings es = es ≡ []
-Shape (AwaitsColumns g left) es = (cs : List (List Observation)) × (es ≡ begun g (length cs + left) cs) × (columns_verdict cs ≡ Sound)
-Shape AwaitsFinish es = (f : File) × (es ++ (finish ∷ []) ≡ file_steps f) × (columns_verdict f.columns ≡ Sound)
-Shape Finished es = (f : File) × (es ≡ file_steps f) × (columns_verdict f.columns ≡ Sound)
+Shape (AwaitsColumns g left) es = (cs : List (List Observation)) × (es ≡ begun g (length cs + left) cs) × (columns_verdict cs ≡ Ok tt)
+Shape AwaitsFinish es = (f : File) × (es ++ (finish ∷ []) ≡ file_steps f) × (columns_verdict f.columns ≡ Ok tt)
+Shape Finished es = (f : File) × (es ≡ file_steps f) × (columns_verdict f.columns ≡ Ok tt)
 
-module _ (part : List ℕ) (es : List Step) (h : every is_byte part ≡ true) where
+module _ (part : List ℕ) (es : List Step) (h : list_all is_byte part ≡ true) where
   -- with one step more
   abbrev More : PartKind → Stage → Type 0
   More kind next = Shape next (es ++ (put kind part ∷ []))
@@ -73,8 +72,8 @@ module _ (part : List ℕ) (es : List Step) (h : every is_byte part ≡ true) wh
   column-more : (g : Settings) (left : ℕ) → 0 < left → Shape (AwaitsColumns g left) es → Accepting (More column) (after_column (AwaitsColumns g left) part)
   unfolding after_column
   column-more g left k s =
-      further (λ c. (column_bytes c ≡ part) × (column_verdict c ≡ Sound)) (More column) (read_column part) _
-      (read_part (λ c. (column_bytes c ≡ part) × (column_verdict c ≡ Sound)) (read_column part) (λ c e. parts_both_ways.column.accepted_reads part h c e))
+      further (λ c. (column_bytes c ≡ part) × (column_verdict c ≡ Ok tt)) (More column) (read_column part) _
+      (read_part (λ c. (column_bytes c ≡ part) × (column_verdict c ≡ Ok tt)) (read_column part) (λ c e. parts_both_ways.column.accepted_reads part h c e))
       (λ c e.
       let n : length (s.0 ++ (c ∷ [])) + (left - 1) ≡ length s.0 + left = omega (arith, length-append s.0 (c ∷ [])) in
       (s.0 ++ (c ∷ []), rw (s.1, n, map-append column_step s.0 (c ∷ []), e.0), columns_more s.0 c s.2 e.1))

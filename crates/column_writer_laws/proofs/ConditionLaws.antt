@@ -1,4 +1,5 @@
 -- The conditions of a step, each by itself. Assumes nothing.
+use Rattle.std.specs.Prelude.{Err, Ok}
 use mathlib.Core.Path.{◌≡◌, refl, subst}
 use mathlib.Core.Bool.{true, false}
 use mathlib.Core.List.{List}
@@ -10,7 +11,7 @@ use Rattle.words.proofs.Cases.{clash}
 use Rattle.words.specs.Lists.{byte_at}
 use Rattle.refusals.specs.declared.Refusal.TheVariants.{CutOff, BadSettings, AbsentQuality}
 use Rattle.refusals.specs.Refusals.{number_in}
-use Rattle.refusals.specs.Result.{Result, refused, accepted, and_then, judged}
+use Rattle.refusals.specs.Result.{Result, and_then, judged}
 use Rattle.string_set.specs.Readers.{alone, longest_file}
 use Rattle.string_set.specs.StringSet.{string_set, read_set}
 use Rattle.column_file.specs.declared.settings.Settings.{Settings}
@@ -31,33 +32,33 @@ use Rattle.column_writer_laws.specs.Conditions.{PartConditions, FinishConditions
 -- ---- what the reader says of a part, by what it is by its counts
 
 abbrev By : Result ByCounts → Result Stage → Type 0
-By (refused r) read = read ≡ refused r
-By (accepted p) read =
-    (are_bad_settings p ≡ true → read ≡ refused BadSettings)
-    × (are_bad_settings p ≡ false → has_absent p ≡ true → read ≡ refused AbsentQuality)
-    × (are_bad_settings p ≡ false → has_absent p ≡ false → (next : Stage) × (read ≡ accepted next))
+By (Err r) read = read ≡ Err r
+By (Ok p) read =
+    (are_bad_settings p ≡ true → read ≡ Err BadSettings)
+    × (are_bad_settings p ≡ false → has_absent p ≡ true → read ≡ Err AbsentQuality)
+    × (are_bad_settings p ≡ false → has_absent p ≡ false → (next : Stage) × (read ≡ Ok next))
 
 abbrev settled : Result (List ℕ × ℕ) → Result (Settings × ℕ)
-settled q = and_then q (λ a. and_then (settings_of a.0) (λ g. accepted (g, a.1)))
+settled q = and_then q (λ a. and_then (settings_of a.0) (λ g. Ok (g, a.1)))
 
-settings_by : (q : Result (List ℕ × ℕ)) → By (and_then q (λ a. accepted (counted_settings a.0))) (and_then (settled q) (λ a. accepted (AwaitsColumns a.0 a.1)))
+settings_by : (q : Result (List ℕ × ℕ)) → By (and_then q (λ a. Ok (counted_settings a.0))) (and_then (settled q) (λ a. Ok (AwaitsColumns a.0 a.1)))
 unfolding settings_of
-settings_by (refused r) = refl
-settings_by (accepted a) =
+settings_by (Err r) = refl
+settings_by (Ok a) =
     let bs = a.0 in (
       (λ t. rw (not-true (is_settings bs) t)),
       (λ t e. clash refl e),
       (λ t e. (AwaitsColumns (settings_at (byte_at bs 0) (byte_at bs 1) (byte_at bs 2)) a.1, rw (not-false (is_settings bs) t))),
     )
 
-column_by : (stage : Stage) (q : Result (List Observation)) → By (and_then q (λ c. accepted (counted_column c)))
-    (and_then (and_then q (λ c. judged (column_verdict c) c)) (λ c. accepted (one_column_less stage)))
-column_by stage (refused r) = refl
-column_by stage (accepted c) = ((λ t. clash refl t), (λ t e. rw (column_absent c, e)), (λ t e. (one_column_less stage, rw (column_absent c, e))))
+column_by : (stage : Stage) (q : Result (List Observation)) → By (and_then q (λ c. Ok (counted_column c)))
+    (and_then (and_then q (λ c. judged (column_verdict c) c)) (λ c. Ok (one_column_less stage)))
+column_by stage (Err r) = refl
+column_by stage (Ok c) = ((λ t. clash refl t), (λ t e. rw (column_absent c, e)), (λ t e. (one_column_less stage, rw (column_absent c, e))))
 
-strings_by : (q : Result (List (List ℕ))) → By (and_then q (λ l. accepted counted_strings)) (and_then q (λ l. accepted AwaitsFinish))
-strings_by (refused r) = refl
-strings_by (accepted l) = ((λ t. clash refl t), (λ t e. clash refl e), (λ t e. (AwaitsFinish, refl)))
+strings_by : (q : Result (List (List ℕ))) → By (and_then q (λ l. Ok counted_strings)) (and_then q (λ l. Ok AwaitsFinish))
+strings_by (Err r) = refl
+strings_by (Ok l) = ((λ t. clash refl t), (λ t e. clash refl e), (λ t e. (AwaitsFinish, refl)))
 
 part_by : (stage : Stage) (kind : PartKind) (part : List ℕ) → length part ≤ longest_file → By (by_counts kind part) (next_stage stage kind part)
 unfolding after_settings after_column after_strings read_settings read_column read_set
@@ -81,12 +82,12 @@ module _ (w : Writer) (kind : PartKind) (part file : List ℕ) where
       by : By (by_counts kind part) (next_stage w.stage kind part)
       by = part_by w.stage kind part (omega arith)
 
-      two : by_counts kind part ≡ refused CutOff → number_in (put_in w kind part file) ≡ 2
+      two : by_counts kind part ≡ Err CutOff → number_in (put_in w kind part file) ≡ 2
       unfolding put_in
       two e = rw (turn, le-ltb longest_file (w.written + length part) short, subst (λ (q : Result ByCounts). By q (next_stage w.stage kind part)) e by)
 
-      module _ (p : ByCounts) (e : by_counts kind part ≡ accepted p) where
-        known : By (accepted p) (next_stage w.stage kind part)
+      module _ (p : ByCounts) (e : by_counts kind part ≡ Ok p) where
+        known : By (Ok p) (next_stage w.stage kind part)
         known = subst (λ (q : Result ByCounts). By q (next_stage w.stage kind part)) e by
 
         three : are_bad_settings p ≡ true → number_in (put_in w kind part file) ≡ 3

@@ -1,4 +1,5 @@
 -- A draft of which the first bytes are known, and a part behind them. Assumes nothing.
+use Rattle.std.specs.Prelude.{Err, Ok}
 use mathlib.Core.Path.{◌≡◌, refl, ◌∙◌}
 use mathlib.Core.Bool.{true, not}
 use mathlib.Core.List.{List, ◌++◌}
@@ -10,7 +11,7 @@ use lib.ListN.{length, drop, length-append, length-drop}
 use lib.Seq.{take-append_seam, drop-append-add, drop-drop}
 use Rattle.words.proofs.Cases.{choice}
 use Rattle.lent_bytes.specs.Buffer.{written_at}
-use Rattle.refusals.specs.Result.{Result, refused, accepted}
+use Rattle.refusals.specs.Result.{Result}
 use Rattle.string_set.specs.Readers.{longest_file}
 use Rattle.column_file_laws.proofs.Both.{Accepting, further}
 use Rattle.column_writer.specs.declared.stages.Stage.{Stage}
@@ -42,8 +43,8 @@ part-more bs part out h =
 
 -- a part in turn that the reader accepts, where neither the file nor the buffer is too short for it
 module _ (stage next : Stage) (kind : PartKind) (part bs out : List ℕ) (turn : in_turn stage kind ≡ true)
-    (reads : next_stage stage kind part ≡ accepted next) (short : length (bs ++ part) ≤ longest_file) (room : length (bs ++ part) ≤ length out) where
-  pub put_said : said_of (put kind part) (draft_at stage bs out) ≡ accepted (record { stage = next; written = length (bs ++ part) })
+    (reads : next_stage stage kind part ≡ Ok next) (short : length (bs ++ part) ≤ longest_file) (room : length (bs ++ part) ≤ length out) where
+  pub put_said : said_of (put kind part) (draft_at stage bs out) ≡ Ok (record { stage = next; written = length (bs ++ part) })
   unfolding put_in room_for_part
   put_said =
       let size = length-append bs part in
@@ -59,13 +60,13 @@ pub record Put (w : Writer) (kind : PartKind) (part file : List ℕ) (v : Writer
   pub turn : in_turn w.stage kind ≡ true
   pub short : w.written + length part ≤ longest_file
   pub room : w.written + length part ≤ length file
-  pub reads : next_stage w.stage kind part ≡ accepted v.stage
+  pub reads : next_stage w.stage kind part ≡ Ok v.stage
   pub written : v.written ≡ w.written + length part
 
 -- what is known of what is accepted
-pub read_part : {A : Type 0} (P : A → Type 0) (q : Result A) → ((a : A) → q ≡ accepted a → P a) → Accepting P q
-read_part P (refused r) h = tt
-read_part P (accepted a) h = h a refl
+pub read_part : {A : Type 0} (P : A → Type 0) (q : Result A) → ((a : A) → q ≡ Ok a → P a) → Accepting P q
+read_part P (Err r) h = tt
+read_part P (Ok a) h = h a refl
 
 pub put_known : (w : Writer) (kind : PartKind) (part file : List ℕ) → Accepting (Put w kind part file) (put_in w kind part file)
 unfolding put_in room_for_part
@@ -73,6 +74,6 @@ put_known w kind part file =
     let end = w.written + length part in
     choice (Accepting (Put w kind part file)) (not (in_turn w.stage kind)) _ _ (λ e. tt)
     (λ t. choice (Accepting (Put w kind part file)) (ltb longest_file end) _ _ (λ e. tt)
-    (λ s. further (λ next. next_stage w.stage kind part ≡ accepted next) (Put w kind part file) (next_stage w.stage kind part) _ (read_part (λ next. next_stage w.stage kind part ≡ accepted next) (next_stage w.stage kind part) (λ next e. e))
+    (λ s. further (λ next. next_stage w.stage kind part ≡ Ok next) (Put w kind part file) (next_stage w.stage kind part) _ (read_part (λ next. next_stage w.stage kind part ≡ Ok next) (next_stage w.stage kind part) (λ next e. e))
     (λ next n. choice (Accepting (Put w kind part file)) (ltb (length file) end) _ _ (λ e. tt)
     (λ r. record { turn = not-false _ t; short = ltb-false longest_file end s; room = ltb-false (length file) end r; reads = n; written = refl }))))

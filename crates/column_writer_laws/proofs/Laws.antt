@@ -1,4 +1,6 @@
 -- What holds of every list of steps, and of each step. Assumes nothing.
+use Rattle.std.specs.Prelude.{Err, Ok}
+use Rattle.std.specs.List.{list_all}
 use mathlib.Core.Path.{◌≡◌, refl, sym, ◌∙◌, ap, subst}
 use mathlib.Core.Bool.{true}
 use mathlib.Core.List.{List, [], ◌∷◌, ◌++◌, map, append-nil, append_assoc}
@@ -10,13 +12,10 @@ use lib.Dec.{leb}
 use lib.ListN.{length, take, drop, length-append, length-drop, take-append-drop}
 use lib.Seq.{length-take-le, take-append_seam, drop-append_seam, take_at, drop_at}
 use Rattle.words.proofs.Cases.{choice}
-use Rattle.words.specs.Lists.{every}
 use Rattle.lent_bytes.specs.Bytes.{joined}
 use Rattle.lent_bytes.specs.Buffer.{written_at}
 use Rattle.lent_bytes.proofs.Joined.{joined_append}
 use Rattle.refusals.specs.declared.Refusal.{Refusal}
-use Rattle.refusals.specs.declared.Verdict.TheVariants.{Sound}
-use Rattle.refusals.specs.Result.{refused, accepted}
 use Rattle.column_file.specs.Format.{Observation}
 use Rattle.column_file.specs.Reading.{columns_verdict, File, read_file}
 use Rattle.column_file.specs.Encoding.{announced_bytes, column_bytes, string_set_bytes, file_bytes}
@@ -24,7 +23,7 @@ use Rattle.column_file_laws.specs.Encoding.{is_byte}
 use Rattle.column_file_laws.proofs.Both.{Accepting, both_ways}
 use Rattle.column_writer.specs.declared.stages.Stage.{Stage}
 use Rattle.column_writer.specs.declared.stages.Stage.TheVariants.{Finished}
-use Rattle.column_writer.specs.declared.stages.PartKind.TheVariants.{Settings as settings, Strings as strings}
+use Rattle.column_writer.specs.declared.stages.PartKind.TheVariants.{Strings as strings}
 use Rattle.column_writer.specs.declared.writer.Writer.{Writer}
 use Rattle.column_writer_laws.specs.Steps.{Step, put, finish, part_of, Draft, new_draft, said_of, after_step, after_steps, draft_after, kept, column_step, file_steps}
 use Rattle.column_writer_laws.specs.Laws.{are_bytes, IsFile, Rewritten, OnlyPart, WriterLaws}
@@ -49,7 +48,7 @@ joined_steps f =
     (sym (append_assoc a j s) ∙ whole [] f)
 
 module _ (es : List Step) (out : List ℕ) (d : Draft) (h : LedTo out (kept es (new_draft out)) d) (f : File)
-    (steps : kept es (new_draft out) ≡ file_steps f) (sound : columns_verdict f.columns ≡ Sound) where
+    (steps : kept es (new_draft out) ≡ file_steps f) (sound : columns_verdict f.columns ≡ Ok tt) where
   is_file : IsFile es out d
   is_file =
       let bs = joined part_of (kept es (new_draft out)) in
@@ -71,7 +70,7 @@ finished_reads es b out t =
 
 -- ---- a file written again
 
-rewritten : (s : List ℕ) → every is_byte s ≡ true → (f : File) → read_file s ≡ accepted f → (out : List ℕ) → length s ≤ length out → Rewritten s f out
+rewritten : (s : List ℕ) → list_all is_byte s ≡ true → (f : File) → read_file s ≡ Ok f → (out : List ℕ) → length s ≤ length out → Rewritten s f out
 rewritten s b f e out room =
     let i = both_ways.accepted_reads s b f e in
     let p = all_pass out f i.qualities (rw i.bytes i.size) (rw i.bytes room) in
@@ -111,7 +110,7 @@ nothing_put at before =
     (λ e. rw (append-nil (take at before), add-zero at) (take-append-drop at before))
     (λ e. refl)
 
-only_its_part : (e : Step) (d : Draft) (w : Writer) → said_of e d ≡ accepted w
+only_its_part : (e : Step) (d : Draft) (w : Writer) → said_of e d ≡ Ok w
     → (w.written ≡ d.writer.written + length (part_of e)) × OnlyPart d.writer.written (part_of e) d.file (after_step e d).file
 only_its_part (put kind part) d w q =
     let k : Put d.writer kind part d.file w = subst (Accepting (Put d.writer kind part d.file)) q (put_known d.writer kind part d.file) in
@@ -123,7 +122,7 @@ only_its_part finish d w q =
       rw (q, nothing_put at d.file) (record { as_long = refl; front = refl; there = refl; beyond = refl }),
     )
 
-refused_nothing : (e : Step) (d : Draft) (r : Refusal) → said_of e d ≡ refused r → after_step e d ≡ d
+refused_nothing : (e : Step) (d : Draft) (r : Refusal) → said_of e d ≡ Err r → after_step e d ≡ d
 refused_nothing e d r q = rw q
 
 pub writer_laws : WriterLaws

@@ -1,17 +1,18 @@
 -- What holds of the draft after any list of steps: its bytes are those of the accepted ones. Assumes nothing.
+use Rattle.std.specs.Prelude.{Err, Ok}
+use Rattle.std.specs.List.{list_all}
 use mathlib.Core.Path.{◌≡◌, refl, sym, ◌∙◌, ap, subst}
 use mathlib.Core.Bool.{true, not}
 use mathlib.Core.List.{List, [], ◌∷◌, ◌++◌, append-nil, append_assoc}
-use Prim.Native.Nat.{ℕ, ◌+◌, ◌≤◌}
+use Prim.Native.Nat.{ℕ, ◌≤◌}
 use native.Mathlib.Omega.{arith}
 use borrow.Author.Tests.{not-false}
 use lib.ListN.{length, length-append}
 use Rattle.words.proofs.Cases.{choice, both}
-use Rattle.words.specs.Lists.{every}
 use Rattle.lent_bytes.specs.Bytes.{joined}
 use Rattle.lent_bytes.proofs.Joined.{joined_append}
 use Rattle.refusals.specs.declared.Refusal.{Refusal}
-use Rattle.refusals.specs.Result.{Result, refused, accepted}
+use Rattle.refusals.specs.Result.{Result}
 use Rattle.string_set.specs.Readers.{longest_file}
 use Rattle.column_file_laws.specs.Encoding.{is_byte}
 use Rattle.column_file_laws.proofs.Both.{Accepting}
@@ -27,9 +28,9 @@ use Rattle.column_writer_laws.proofs.Drafts.{draft_at, drafted_length, part-more
 use Rattle.column_writer_laws.proofs.Accepted.{Shape, shape_more, shape_finished}
 
 -- what follows from either outcome
-pub outcome : {A P : Type 0} (q : Result A) → ((r : Refusal) → q ≡ refused r → P) → ((a : A) → q ≡ accepted a → P) → P
-outcome (refused r) h k = h r refl
-outcome (accepted a) h k = k a refl
+pub outcome : {A P : Type 0} (q : Result A) → ((r : Refusal) → q ≡ Err r → P) → ((a : A) → q ≡ Ok a → P) → P
+outcome (Err r) h k = h r refl
+outcome (Ok a) h k = k a refl
 
 -- a finish that is accepted
 pub finish_known : (w : Writer) → Accepting (λ v. (awaits_finish w.stage ≡ true) × (v ≡ record { stage = Finished; written = w.written })) (finish_of w)
@@ -56,7 +57,7 @@ module _ (out : List ℕ) where
     abbrev before : Draft
     before = draft_at stage (joined part_of es) out
 
-    put_held : (kind : PartKind) (part : List ℕ) → every is_byte part ≡ true → (v : Writer) → said_of (put kind part) before ≡ accepted v
+    put_held : (kind : PartKind) (part : List ℕ) → list_all is_byte part ≡ true → (v : Writer) → said_of (put kind part) before ≡ Ok v
         → LedTo (es ++ (put kind part ∷ [])) (after_step (put kind part) before)
     put_held kind part h v q =
         let bs = joined part_of es in
@@ -73,7 +74,7 @@ module _ (out : List ℕ) where
           shape = subst (Accepting (λ (next : Stage). Shape next (es ++ (put kind part ∷ [])))) k.reads (shape_more part es h kind stage k.turn shape);
         }
 
-    finish_held : (v : Writer) → said_of finish before ≡ accepted v → LedTo (es ++ (finish ∷ [])) (after_step finish before)
+    finish_held : (v : Writer) → said_of finish before ≡ Ok v → LedTo (es ++ (finish ∷ [])) (after_step finish before)
     finish_held v q =
         let bs = joined part_of es in
         let k = subst (Accepting (λ (v : Writer). (awaits_finish stage ≡ true) × (v ≡ record { stage = Finished; written = length bs }))) q (finish_known before.writer) in
@@ -87,12 +88,12 @@ module _ (out : List ℕ) where
           shape = shape_finished stage es k.0 shape;
         }
 
-    step_held : (e : Step) → every is_byte (part_of e) ≡ true → (v : Writer) → said_of e before ≡ accepted v → LedTo (es ++ (e ∷ [])) (after_step e before)
+    step_held : (e : Step) → list_all is_byte (part_of e) ≡ true → (v : Writer) → said_of e before ≡ Ok v → LedTo (es ++ (e ∷ [])) (after_step e before)
     step_held (put kind part) h v q = put_held kind part h v q
     step_held finish h v q = finish_held v q
 
   -- a step that is accepted is kept
-  kept_more : (es : List Step) (e : Step) (l : List Step) (q : Result Writer) (v : Writer) → q ≡ accepted v → es ++ kept_by e q l ≡ (es ++ (e ∷ [])) ++ l
+  kept_more : (es : List Step) (e : Step) (l : List Step) (q : Result Writer) (v : Writer) → q ≡ Ok v → es ++ kept_by e q l ≡ (es ++ (e ∷ [])) ++ l
   kept_more es e l q v h = rw (h, append_assoc es (e ∷ []) l)
 
   run_held : (steps es : List Step) (stage : Stage) → are_bytes steps ≡ true → length (joined part_of es) ≤ longest_file → length (joined part_of es) ≤ length out → Shape stage es
@@ -100,7 +101,7 @@ module _ (out : List ℕ) where
   run_held [] es stage h short room shape = rw (append-nil es) (record { stage = stage; draft = refl; short = short; room = room; shape = shape })
   run_held (e ∷ steps) es stage h short room shape =
       let d = draft_at stage (joined part_of es) out in
-      let are = both (every is_byte (part_of e)) (are_bytes steps) h in
+      let are = both (list_all is_byte (part_of e)) (are_bytes steps) h in
       outcome (said_of e d)
       (λ r q. rw q (run_held steps es stage are.1 short room shape))
       (λ v q.

@@ -1,14 +1,14 @@
 -- The steps that write what a file says are all accepted, where there is room, and lead to its bytes. Assumes nothing.
+use Rattle.std.specs.Prelude.{Ok}
 use mathlib.Core.Path.{◌≡◌, refl, sym, ◌∙◌, ap}
 use mathlib.Core.Bool.{true}
 use mathlib.Core.List.{List, [], ◌∷◌, ◌++◌, map, append-nil, append_assoc}
-use Prim.Native.Nat.{ℕ, suc, ◌+◌, ◌-◌, ◌≤◌}
+use Prim.Native.Nat.{ℕ, suc, ◌-◌, ◌≤◌}
 use native.Mathlib.Omega.{arith}
 use borrow.Author.Tests.{lt-ltb}
 use lib.ListN.{length, length-append}
 use Rattle.lent_bytes.specs.Bytes.{joined}
-use Rattle.refusals.specs.declared.Verdict.TheVariants.{Sound}
-use Rattle.refusals.specs.Result.{Result, accepted, first_refused}
+use Rattle.refusals.specs.Result.{Result, first_refused}
 use Rattle.string_set.specs.Readers.{longest_file}
 use Rattle.column_file.specs.declared.settings.Settings.{Settings}
 use Rattle.column_file.specs.Format.{Observation}
@@ -31,10 +31,10 @@ pub record Passes (steps : List Step) (d e : Draft) : Type 0 where
   pub all : (rest : List Step) → kept (steps ++ rest) d ≡ steps ++ kept rest e
   pub to : (rest : List Step) → after_steps (steps ++ rest) d ≡ after_steps rest e
 
-kept_first : (s : Step) (q : Result Writer) (l : List Step) (v : Writer) → q ≡ accepted v → kept_by s q l ≡ s ∷ l
+kept_first : (s : Step) (q : Result Writer) (l : List Step) (v : Writer) → q ≡ Ok v → kept_by s q l ≡ s ∷ l
 kept_first s q l v e = rw e
 
-one_passes : (s : Step) (d e : Draft) (v : Writer) → said_of s d ≡ accepted v → after_step s d ≡ e → Passes (s ∷ []) d e
+one_passes : (s : Step) (d e : Draft) (v : Writer) → said_of s d ≡ Ok v → after_step s d ≡ e → Passes (s ∷ []) d e
 one_passes s d e v q t = record {
   all = λ rest. kept_first s (said_of s d) (kept rest (after_step s d)) v q ∙ ap (λ (x : Draft). s ∷ kept rest x) t;
   to = λ rest. ap (λ (x : Draft). after_steps rest x) t;
@@ -47,7 +47,7 @@ then_pass a b d e f p q = record {
 }
 
 module _ (out : List ℕ) where
-  put_passes : (stage next : Stage) (kind : PartKind) (part bs : List ℕ) → in_turn stage kind ≡ true → next_stage stage kind part ≡ accepted next
+  put_passes : (stage next : Stage) (kind : PartKind) (part bs : List ℕ) → in_turn stage kind ≡ true → next_stage stage kind part ≡ Ok next
       → length (bs ++ part) ≤ longest_file → length (bs ++ part) ≤ length out
       → Passes (put kind part ∷ []) (draft_at stage bs out) (draft_at next (bs ++ part) out)
   put_passes stage next kind part bs t n short room =
@@ -62,19 +62,19 @@ module _ (out : List ℕ) where
       one_passes finish (draft_at AwaitsFinish bs out) (draft_at Finished bs out) _ refl (rw (part-more bs [] out same, append-nil bs))
 
   -- a column
-  column_read : (g : Settings) (left : ℕ) (c : List Observation) → length (column_bytes c) ≤ longest_file → column_verdict c ≡ Sound
-      → next_stage (AwaitsColumns g (suc left)) column (column_bytes c) ≡ accepted (AwaitsColumns g left)
+  column_read : (g : Settings) (left : ℕ) (c : List Observation) → length (column_bytes c) ≤ longest_file → column_verdict c ≡ Ok tt
+      → next_stage (AwaitsColumns g (suc left)) column (column_bytes c) ≡ Ok (AwaitsColumns g left)
   unfolding after_column
   column_read g left c short sound =
       let less : suc left - 1 ≡ left = omega arith in
       rw (parts_both_ways.column.never_refused c short sound, less)
 
   -- no column is faulty: neither the first nor the others
-  sound_parts : (c : List Observation) (cs : List (List Observation)) → columns_verdict (c ∷ cs) ≡ Sound → (column_verdict c ≡ Sound) × (columns_verdict cs ≡ Sound)
+  sound_parts : (c : List Observation) (cs : List (List Observation)) → columns_verdict (c ∷ cs) ≡ Ok tt → (column_verdict c ≡ Ok tt) × (columns_verdict cs ≡ Ok tt)
   unfolding columns_verdict
   sound_parts c cs h = or_sound (column_verdict c) (first_refused column_verdict cs) h
 
-  columns_pass : (g : Settings) (cs : List (List Observation)) (bs : List ℕ) → columns_verdict cs ≡ Sound
+  columns_pass : (g : Settings) (cs : List (List Observation)) (bs : List ℕ) → columns_verdict cs ≡ Ok tt
       → length (bs ++ joined column_bytes cs) ≤ longest_file → length (bs ++ joined column_bytes cs) ≤ length out
       → Passes (map column_step cs) (draft_at (AwaitsColumns g (length cs)) bs out) (draft_at (AwaitsColumns g 0) (bs ++ joined column_bytes cs) out)
   columns_pass g [] bs sound short room = rw (append-nil bs) (record { all = λ rest. refl; to = λ rest. refl })
@@ -98,15 +98,15 @@ module _ (out : List ℕ) where
   unfolding file_bytes columns_bytes
   whole f = simp append_assoc
 
-  settings_read : (g : Settings) (n : ℕ) → length (announced_bytes g n) ≤ longest_file → next_stage AwaitsSettings settings (announced_bytes g n) ≡ accepted (AwaitsColumns g n)
+  settings_read : (g : Settings) (n : ℕ) → length (announced_bytes g n) ≤ longest_file → next_stage AwaitsSettings settings (announced_bytes g n) ≡ Ok (AwaitsColumns g n)
   unfolding after_settings
   settings_read g n short = rw (parts_both_ways.settings.never_refused (g, n) short refl)
 
-  strings_read : (g : Settings) (l : List (List ℕ)) → length (string_set_bytes l) ≤ longest_file → next_stage (AwaitsColumns g 0) strings (string_set_bytes l) ≡ accepted AwaitsFinish
+  strings_read : (g : Settings) (l : List (List ℕ)) → length (string_set_bytes l) ≤ longest_file → next_stage (AwaitsColumns g 0) strings (string_set_bytes l) ≡ Ok AwaitsFinish
   unfolding after_strings
   strings_read g l short = rw (parts_both_ways.strings.never_refused l short refl)
 
-  pub all_pass : (f : File) → columns_verdict f.columns ≡ Sound → length (file_bytes f) ≤ longest_file → length (file_bytes f) ≤ length out
+  pub all_pass : (f : File) → columns_verdict f.columns ≡ Ok tt → length (file_bytes f) ≤ longest_file → length (file_bytes f) ≤ length out
       → Passes (file_steps f) (new_draft out) (draft_at Finished (file_bytes f) out)
   all_pass f sound short room =
       let g = f.settings in

@@ -1,9 +1,9 @@
 -- The conditions of a step, each by itself: 13, then 1, then 2 to 4, then 12.
-use Rattle.std.specs.Prelude.{◌≡◌, Bool, true, false, not, List, ℕ, suc, ◌+◌, ◌≤◌, ◌<◌, length}
-use Rattle.words.specs.Lists.{any}
+use Rattle.std.specs.List.{list_any}
+use Rattle.std.specs.Prelude.{◌≡◌, Bool, true, false, not, List, ℕ, suc, ◌+◌, ◌≤◌, ◌<◌, length, Err, Ok}
 use Rattle.refusals.specs.declared.Refusal.TheVariants.{CutOff}
 use Rattle.refusals.specs.Refusals.{number_in}
-use Rattle.refusals.specs.Result.{Result, refused, accepted, and_then}
+use Rattle.refusals.specs.Result.{Result, and_then}
 use Rattle.string_set.specs.Readers.{alone, longest_file}
 use Rattle.string_set.specs.StringSet.{string_set}
 use Rattle.column_file.specs.declared.settings.Settings.{Settings}
@@ -27,9 +27,9 @@ pub data ByCounts : Type 0 where
 
 -- so read, or 2
 abbrev pub by_counts : PartKind → List ℕ → Result ByCounts
-by_counts settings part = and_then (alone (announced part)) (λ a. accepted (counted_settings a.0))
-by_counts column part = and_then (alone (one_column part)) (λ c. accepted (counted_column c))
-by_counts strings part = and_then (alone (string_set part)) (λ l. accepted counted_strings)
+by_counts settings part = and_then (alone (announced part)) (λ a. Ok (counted_settings a.0))
+by_counts column part = and_then (alone (one_column part)) (λ c. Ok (counted_column c))
+by_counts strings part = and_then (alone (string_set part)) (λ l. Ok counted_strings)
 
 -- settings that are not three, or whose rule is above 1
 abbrev pub are_bad_settings : ByCounts → Bool
@@ -40,7 +40,7 @@ are_bad_settings counted_strings = false
 -- a column with a quality of 255
 abbrev pub has_absent : ByCounts → Bool
 has_absent (counted_settings bs) = false
-has_absent (counted_column c) = any is_absent c
+has_absent (counted_column c) = list_any is_absent c
 has_absent counted_strings = false
 
 -- a part: what it is refused by, in turn
@@ -50,19 +50,19 @@ pub record PartConditions (w : Writer) (kind : PartKind) (part file : List ℕ) 
   -- 1: else, where the bytes already written and the part's are more than 65,536
   pub too_long : in_turn w.stage kind ≡ true → longest_file < w.written + length part → number_in (put_in w kind part file) ≡ 1
   -- 2: else, where its bytes are no such part up to the last
-  pub cut_off : in_turn w.stage kind ≡ true → w.written + length part ≤ longest_file → by_counts kind part ≡ refused CutOff
+  pub cut_off : in_turn w.stage kind ≡ true → w.written + length part ≤ longest_file → by_counts kind part ≡ Err CutOff
       → number_in (put_in w kind part file) ≡ 2
   -- 3: else, where the settings are not three or the rule is above 1
-  pub bad_settings : in_turn w.stage kind ≡ true → w.written + length part ≤ longest_file → (p : ByCounts) → by_counts kind part ≡ accepted p
+  pub bad_settings : in_turn w.stage kind ≡ true → w.written + length part ≤ longest_file → (p : ByCounts) → by_counts kind part ≡ Ok p
       → are_bad_settings p ≡ true → number_in (put_in w kind part file) ≡ 3
   -- 4: else, where a quality is 255
-  pub absent_quality_lem : in_turn w.stage kind ≡ true → w.written + length part ≤ longest_file → (p : ByCounts) → by_counts kind part ≡ accepted p
+  pub absent_quality_lem : in_turn w.stage kind ≡ true → w.written + length part ≤ longest_file → (p : ByCounts) → by_counts kind part ≡ Ok p
       → are_bad_settings p ≡ false → has_absent p ≡ true → number_in (put_in w kind part file) ≡ 4
   -- 12: else, where the buffer ends before the part does
-  pub no_room : in_turn w.stage kind ≡ true → w.written + length part ≤ longest_file → (p : ByCounts) → by_counts kind part ≡ accepted p
+  pub no_room : in_turn w.stage kind ≡ true → w.written + length part ≤ longest_file → (p : ByCounts) → by_counts kind part ≡ Ok p
       → are_bad_settings p ≡ false → has_absent p ≡ false → length file < w.written + length part → number_in (put_in w kind part file) ≡ 12
   -- and none else
-  pub accepted_else : in_turn w.stage kind ≡ true → w.written + length part ≤ longest_file → (p : ByCounts) → by_counts kind part ≡ accepted p
+  pub accepted_else : in_turn w.stage kind ≡ true → w.written + length part ≤ longest_file → (p : ByCounts) → by_counts kind part ≡ Ok p
       → are_bad_settings p ≡ false → has_absent p ≡ false → w.written + length part ≤ length file → number_in (put_in w kind part file) ≡ 0
 
 -- ---- the finish

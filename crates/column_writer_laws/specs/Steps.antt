@@ -1,6 +1,6 @@
 -- Steps of writing, one after another, each with the writer and the buffer as the one before left them.
-use Rattle.std.specs.Prelude.{ℕ, List, [], ◌∷◌, ◌++◌, map, length}
-use Rattle.refusals.specs.Result.{Result, refused, accepted}
+use Rattle.std.specs.Prelude.{ℕ, List, [], ◌∷◌, ◌++◌, map, length, Err, Ok}
+use Rattle.refusals.specs.Result.{Result}
 use Rattle.column_file.specs.Format.{Observation}
 use Rattle.column_file.specs.Reading.{File}
 use Rattle.column_file.specs.Encoding.{announced_bytes, column_bytes, string_set_bytes}
@@ -48,8 +48,8 @@ draft_after es out = after_steps es (new_draft out)
 
 -- a step before others, if it is accepted
 abbrev pub kept_by : Step → Result Writer → List Step → List Step
-kept_by e (refused r) es = es
-kept_by e (accepted w) es = e ∷ es
+kept_by e (Err r) es = es
+kept_by e (Ok w) es = e ∷ es
 
 -- those of the steps that are accepted, in their order
 abbrev pub kept : List Step → Draft → List Step

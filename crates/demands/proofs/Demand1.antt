@@ -1,5 +1,6 @@
 -- Demand 1, whole. Assumes nothing.
-use Rattle.refusals.specs.Result.{and_then, accepted}
+use Rattle.std.specs.Prelude.{Ok}
+use Rattle.refusals.specs.Result.{and_then}
 use Rattle.simple_consensus.specs.Consensus.{default_caller, call_consensus_of, consensus_of, umis_of}
 use Rattle.simple_umi.specs.Duplex.{duplex_of}
 use Rattle.umi_groups.specs.Found.{room_for}
@@ -25,7 +26,7 @@ demand1 = record {
   consensus = λ c set out. in_turn_lem (consensus_of c) text set out (room_for out) (λ f h. room_short out f h) (λ f h. room_enough out f h);
   consensus_umis = λ set out. in_turn_lem (umis_of default_caller) text set out (room_for out) (λ f h. room_short out f h) (λ f h. room_enough out f h);
   consensus_duplex = λ c set out.
-      in_turn_lem (duplex_of c) duplex_text set out (λ d. and_then (room_for out d.found) (λ f. accepted d))
+      in_turn_lem (duplex_of c) duplex_text set out (λ d. and_then (room_for out d.found) (λ f. Ok d))
       (λ d h. rw (room_short out d.found h)) (λ d h. rw (room_enough out d.found h));
   files = file_conditions;
   listings = listing_conditions;

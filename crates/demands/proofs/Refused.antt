@@ -1,4 +1,5 @@
 -- What is refused of bytes, each in turn, and what a refusal leaves: by the definitions. Assumes nothing.
+use Rattle.std.specs.Prelude.{Err, Ok}
 use mathlib.Core.Path.{◌≡◌}
 use mathlib.Core.List.{List}
 use Prim.Native.Nat.{ℕ, ◌≤◌, ◌<◌}
@@ -6,8 +7,7 @@ use borrow.Author.Tests.{lt-ltb, le-ltb}
 use lib.ListN.{length}
 use Rattle.refusals.specs.declared.Refusal.{Refusal}
 use Rattle.refusals.specs.declared.Refusal.TheVariants.{BufferTooShort}
-use Rattle.refusals.specs.declared.Verdict.TheVariants.{Sound, Refused}
-use Rattle.refusals.specs.Result.{Result, refused, accepted, and_then}
+use Rattle.refusals.specs.Result.{Result, and_then}
 use Rattle.string_set.specs.Readers.{longest_file}
 use Rattle.string_set.specs.StringSet.{read_set}
 use Rattle.simple_consensus.specs.Verdicts.{consensus_verdict}
@@ -30,8 +30,8 @@ set_conditions set = record {
 
 -- of any way of judging, and of a room that is asked last
 pub in_turn_lem : {A : Type 0} (judge : List (List ℕ) → Result A) (text : A → List ℕ) (set out : List ℕ) (room : A → Result A)
-    → ((a : A) → length out < length (text a) → room a ≡ refused BufferTooShort)
-    → ((a : A) → length (text a) ≤ length out → room a ≡ accepted a)
+    → ((a : A) → length out < length (text a) → room a ≡ Err BufferTooShort)
+    → ((a : A) → length (text a) ≤ length out → room a ≡ Ok a)
     → InTurn judge text set out (and_then (and_then (read_set set) judge) room)
 in_turn_lem judge text set out room short enough = record {
   by_bytes = λ r e. rw e;
@@ -43,23 +43,23 @@ in_turn_lem judge text set out room short enough = record {
 -- ---- a listing
 
 module _ (s : List ℕ) where
-  listed_refused : (r : Refusal) → read_file s ≡ refused r → listed_file s ≡ refused r
+  listed_refused : (r : Refusal) → read_file s ≡ Err r → listed_file s ≡ Err r
   unfolding listed_file judge_file
   listed_refused r e = rw e
 
-  strings_refused : (f : File) (r : Refusal) → read_file s ≡ accepted f → consensus_verdict f.strings ≡ Refused r → listed_file s ≡ refused r
+  strings_refused : (f : File) (r : Refusal) → read_file s ≡ Ok f → consensus_verdict f.strings ≡ Err r → listed_file s ≡ Err r
   unfolding listed_file judge_file
   strings_refused f r e v = rw (e, v)
 
-  listed_text : (f : File) → read_file s ≡ accepted f → consensus_verdict f.strings ≡ Sound
-      → listed_file s ≡ accepted (text_of (lines_of f (found default_caller f.strings)))
+  listed_text : (f : File) → read_file s ≡ Ok f → consensus_verdict f.strings ≡ Ok tt
+      → listed_file s ≡ Ok (text_of (lines_of f (found default_caller f.strings)))
   unfolding listed_file judge_file
   listed_text f e v = rw (e, v)
 
 -- a text and the room for it
-room_last : (out : List ℕ) (q : Result (List ℕ)) (t : List ℕ) → q ≡ accepted t
-    → (length out < length (printed q) → and_then q (room_for_text out) ≡ refused BufferTooShort)
-    × (length (printed q) ≤ length out → and_then q (room_for_text out) ≡ accepted (printed q))
+room_last : (out : List ℕ) (q : Result (List ℕ)) (t : List ℕ) → q ≡ Ok t
+    → (length out < length (printed q) → and_then q (room_for_text out) ≡ Err BufferTooShort)
+    × (length (printed q) ≤ length out → and_then q (room_for_text out) ≡ Ok (printed q))
 unfolding room_for_text
 room_last out q t e = rw e ((λ h. rw (lt-ltb (length out) (length t) h)), (λ h. rw (le-ltb (length out) (length t) h)))
 

@@ -55,7 +55,7 @@ ln_one_plus_sum t a low =
     else t.k ⊗ bits 0x3fe6_2e42_fee0_0000 ⊖ (a.half ⊖ (rest_of a low ⊕ (t.k ⊗ bits 0x3dea_39ef_3579_3c76 ⊕ t.c)) ⊖ t.f)
 
 -- the same with the first three terms added up in one rounding. Such a sum lies between those with the two numbers beside the first coefficient, and no
--- operation of sum_of changes the order: so where these two give the same, that is meant to be it (argued, not proved; the result is what is said here).
+-- operation of it changes the order: so where these two give the same, that is meant to be it (argued, not proved; the result is what is said here).
 unfoldable pub joined_of : Parts → Float
 joined_of t =
     let a = expansion_of t.f in

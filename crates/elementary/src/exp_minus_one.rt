@@ -50,6 +50,7 @@ pub fn exp_m1(x: f64) -> f64
 }
 
 // y^2 / 2, the series r, and two numbers between which e lies: exp(y) - 1 is y - (e * y - y^2 / 2).
+// kept: no plainer: nothing compares or prints it
 #[derive(Clone, Copy)]
 pub struct Correction {
     pub half: f64,

@@ -58,6 +58,7 @@ pub fn exp(x: f64) -> f64
 
 // exp x below that limit. For a k from -900 to 899 all numbers are normal, and 2^k goes into the
 // exponent of the table's entry at once. No such y is below 0; the test shows it.
+// kept: no plainer: four functions ask it of one f64 each; a type for it would be made and opened at every call
 #[tactic(auto, using(crate::proofs::Numbers::sums_of_exp), unfolding(crate::specs::Exp::near_of))]
 fn near(x: f64) -> f64
     requires { is_nan x ≡ false }

@@ -97,6 +97,7 @@ fn below_zero(x: f64) -> f64
 }
 
 // 1 + x as (1 + f) * 2^k, with c for what 1 + x lost when it was rounded, relative to it.
+// kept: no plainer: nothing compares or prints it
 #[derive(Clone, Copy)]
 pub struct Parts {
     pub f: f64,
@@ -105,6 +106,7 @@ pub struct Parts {
 }
 
 // These for any x above -1, by the bit pattern of 1 + x.
+// kept: no plainer: four functions ask it of one f64 each; a type for it would be made and opened at every call
 #[tactic(auto, unfolding(crate::specs::LnOnePlus::reduced_of))]
 fn reduced(x: f64) -> Parts
     requires { is_nan x ≡ false }
@@ -123,6 +125,7 @@ fn reduced(x: f64) -> Parts
 }
 
 // f^2 / 2, s, s^2, and the terms of the series after the first in pairs.
+// kept: no plainer: nothing compares or prints it
 #[derive(Clone, Copy)]
 pub struct Series {
     pub half: f64,

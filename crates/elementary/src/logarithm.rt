@@ -61,6 +61,7 @@ pub fn ln(x: f64) -> f64
 }
 
 // ln(x * 2^(1023 - bias)) for a normal x.
+// kept: no plainer: four functions ask it of one f64 each; a type for it would be made and opened at every call
 #[tactic(auto, unfolding(crate::specs::Ln::normal_of))]
 fn normal(x: f64, bias: f64) -> f64
     requires { is_nan x ≡ false }

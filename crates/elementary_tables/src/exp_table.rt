@@ -4,6 +4,7 @@ ghost use Rattle.elementary_tables.specs.ExpTable.{exp_row_of};
 
 // The rounded power as a bit pattern, so that its exponent can be raised, and what the rounding
 // left out, relative to it.
+// kept: no plainer: nothing compares or prints it
 #[derive(Clone, Copy)]
 pub struct ExpRow {
     pub head: u64,

@@ -4,6 +4,7 @@ ghost use Rattle.elementary_tables.specs.LnTable.{ln_row_of};
 
 // 1 / c in two parts, the first of 9 digits, how far the part's middle over c lies above 1, and
 // ln c, from 1.375 on ln(c / 2).
+// kept: no plainer: nothing compares or prints it
 #[derive(Clone, Copy)]
 pub struct LnRow {
     pub head: f64,

@@ -1,6 +1,5 @@
 -- What holds of the table and of every sum. The exact probability is no whole number and mostly no fraction: it is spoken of by the fractions on either side.
-use Rattle.std.specs.Prelude.{◌≡◌, ℕ, ◌+◌, ◌*◌, ◌^◌, ◌<◌, ◌≤◌, T, List, length, slice_index}
-use Rattle.words.specs.Lists.{added_up}
+use Rattle.std.specs.Prelude.{◌≡◌, ℕ, ◌+◌, ◌*◌, ◌^◌, ◌<◌, ◌≤◌, T, List, length, slice_index, sum_by}
 use Rattle.column_file.specs.Format.{Observation}
 use Rattle.expected_errors.specs.Table.{Entry, error_table, error_of, whole_table}
 use Rattle.expected_errors.specs.Sums.{errors_with, error_sum}
@@ -44,13 +43,13 @@ pub record SumLaws (c : List Observation) : Type 0 where
   -- both are exact in 64 bits
   pub exact : length c ≤ most_qualities → error_sum c + length c < 2 ^ 64
   -- the sum is the total of the lower bounds
-  pub lower : error_sum c ≡ added_up (λ o. error_of o.quality) c
+  pub lower : error_sum c ≡ sum_by (λ o. error_of o.quality) c
   -- the sum plus the number of qualities is the total of the upper bounds
-  pub upper : error_sum c + length c ≡ added_up (λ o. error_of o.quality + 1) c
+  pub upper : error_sum c + length c ≡ sum_by (λ o. error_of o.quality + 1) c
   -- fractions (a q)/b, each at most the probability of q, add up to no more than the upper total
-  pub below : (a : ℕ → ℕ) (b : ℕ) → 0 < b → ((q : ℕ) → AtMost q (a q) b) → added_up (λ o. a o.quality) c ≤ (error_sum c + length c) * b
+  pub below : (a : ℕ → ℕ) (b : ℕ) → 0 < b → ((q : ℕ) → AtMost q (a q) b) → sum_by (λ o. a o.quality) c ≤ (error_sum c + length c) * b
   -- fractions (a q)/b, each at least the probability of q, add up to no less than the lower total
-  pub above : (a : ℕ → ℕ) (b : ℕ) → 0 < b → ((q : ℕ) → AtLeast q (a q) b) → error_sum c * b ≤ added_up (λ o. a o.quality) c
+  pub above : (a : ℕ → ℕ) (b : ℕ) → 0 < b → ((q : ℕ) → AtLeast q (a q) b) → error_sum c * b ≤ sum_by (λ o. a o.quality) c
 
 -- one quality more could take 65 bits: 65,536 of quality 0
 abbrev pub NoMoreFit : Type 0

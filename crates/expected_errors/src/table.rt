@@ -2,8 +2,6 @@
 ghost use Rattle.std.specs.Prelude.{◌≡◌};
 ghost use Rattle.expected_errors.specs.Table.{error_table, error_of};
 
-use widths::wide;
-
 const ERRORS: [u64; 256] = [
     281_474_976_710_656,
     223_583_521_369_633,
@@ -263,17 +261,16 @@ const ERRORS: [u64; 256] = [
     0,
 ];
 
-// The whole table, to be borrowed: a `const` array is built anew at each use, so that no loop may name
-// it.
-pub fn error_table() -> [u64; 256]
-    ensures { result ≡ error_table }
+// The whole table, lent: a `const` array is built anew at each use, so that no loop may name it.
+pub fn error_table() -> &'static [u64; 256]
+    ensures { result.now ≡ error_table }
 {
-    ERRORS
+    &ERRORS
 }
 
 // The number of one quality.
 pub fn error_entry(quality: u8) -> u64
     ensures { result ≡ error_of quality }
 {
-    ERRORS[wide(quality)]
+    error_table()[usize::from(quality)]
 }

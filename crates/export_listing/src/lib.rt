@@ -2,21 +2,20 @@
 // text of a refusal is not wanted.
 #![tactic(auto)]
 
-ghost use Rattle.std.specs.Prelude.{◌≡◌};
+ghost use Rattle.std.specs.Prelude.{◌≡◌, ◌≤◌, IfOk};
 ghost use Rattle.column_listing.specs.Answers.{listed_in, listing_buffer};
 ghost use Rattle.column_records.specs.Records.{records_in};
-ghost use Rattle.export_listing.specs.Reply.{listing_reply, answer_reply, Short};
+ghost use Rattle.export_listing.specs.Reply.{listing_reply, length_reply};
 
-use column_listing::{Listing, list};
-use refusals::number;
+use refusals::Refusal;
 
-fn reply(answer: Listing) -> u64
-    requires { Short answer }
-    ensures { result ≡ answer_reply answer }
+fn reply(length: Result<usize, Refusal>) -> u64
+    requires { IfOk length (λ n. n ≤ 2400000) }
+    ensures { result ≡ length_reply length }
 {
-    match answer {
-        Listing::Refused(refusal) => number(refusal) as u64,
-        Listing::Given(n) => 256 + n as u64,
+    match length {
+        Ok(n) => 256 + n as u64,
+        Err(refusal) => u64::from(u8::from(refusal)),
     }
 }
 
@@ -26,7 +25,7 @@ pub fn listing(file: &[u8], out: &mut [u8]) -> u64
     ensures reply { result ≡ listing_reply (listed_in file.now out.old) }
     ensures lent { out.new ≡ listing_buffer out.old (listed_in file.now out.old) }
 {
-    reply(list(file, out))
+    reply(column_listing::list(file, out))
 }
 
 // The same of the records.

@@ -2,59 +2,49 @@
 // in C or Rust compares.
 #![tactic(auto)]
 
-ghost use Rattle.std.specs.Prelude.{◌≡◌, ◌<◌, length, get_or};
+ghost use Rattle.std.specs.Prelude.{◌≡◌, ◌≤◌, unwrap_or};
+ghost use Rattle.words.specs.Lists.{listed};
+ghost use Rattle.base_builder.specs.Builder.{observations_for_base};
 ghost use Rattle.lent_bytes.specs.Buffer.{length_written, written};
 ghost use Rattle.lent_bytes.specs.Bytes.{joined, four_bytes};
-ghost use Rattle.lent_text.specs.Printed.{Printed};
+ghost use Rattle.lent_text.specs.Printed.{Printed, last_place};
 ghost use Rattle.export_observations.specs.Observations.{observation_counts, observation_count_bytes};
 
 use base_builder::ConsensusBaseBuilder;
-use export_reports::builder_of;
-use lent_text::put_four;
+use export_reports::{builder_of, put_counts};
+use lent_text::Printer;
 use phred::PhredScore;
-use widths::u32_as_u64;
 
-// Number j of the whole.
-fn count_at(builder: ConsensusBaseBuilder, j: usize) -> u32
-    requires { j < 261 }
-    ensures { result ≡ get_or (observation_counts builder) j 0 }
+// How often each of the 256 bytes was observed.
+fn put_bases(p: &mut Printer, builder: ConsensusBaseBuilder)
+    requires { p.old.at ≤ last_place }
+    ensures { Printed p.old p.new (joined four_bytes (listed (observations_for_base builder) 0 256)) }
 {
-    if j == 0 {
-        return builder.contributions();
+    for base in 0..256_u16 {
+        p.four(builder.observations_for_base(base as u8));
     }
-    if j < 257 {
-        return builder.observations_for_base((j - 1) as u8);
-    }
+}
+
+fn put_all(p: &mut Printer, builder: ConsensusBaseBuilder)
+    ensures { Printed p.old p.new (joined four_bytes (observation_counts builder)) }
+{
+    p.four(builder.contributions());
+    put_bases(p, builder);
     let all = builder.all_observations();
-    all[j - 257]
+    put_counts(p, &all);
 }
 
-fn put_counts(out: &mut [u8], builder: ConsensusBaseBuilder) -> usize
-    requires { length (observation_counts builder) ≡ 261 }
-    ensures { Printed out.old 0 (joined four_bytes (observation_counts builder)) out.new result }
-{
-    let mut at = 0;
-    let mut j = 0;
-    while j < 261 {
-        at = put_four(out, at, u32_as_u64(count_at(builder, j)));
-        j += 1;
-    }
-    at
-}
-
-// 1,044 bytes and as reply their number; or 0, and nothing written, where the state is not 80 bytes or
-// the buffer is too short.
-pub fn observations(state: &[u8], out: &mut [u8]) -> u64
-    ensures reply { result ≡ length_written (observation_count_bytes state.now) out.old }
+// 1,044 bytes, and how many they are; or none, and nothing written, where the state is not 80 bytes or the
+// buffer is too short.
+pub fn observations(state: &[u8], out: &mut [u8]) -> Option<usize>
+    ensures reply { unwrap_or result 0 ≡ length_written (observation_count_bytes state.now) out.old }
     ensures lent { out.new ≡ written (observation_count_bytes state.now) out.old }
 {
-    if state.len() != 80 {
-        return 0;
+    if state.len() != 80 || out.len() < 1044 {
+        return None;
     }
-    if out.len() < 1044 {
-        return 0;
-    }
+    let mut p = Printer { out, at: 0 };
     // No count depends on the rate.
-    put_counts(out, builder_of(PhredScore(0), state));
-    1044
+    put_all(&mut p, builder_of(PhredScore(0), state));
+    Some(1044)
 }

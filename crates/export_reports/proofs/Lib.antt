@@ -1,5 +1,4 @@
-pub mod Puts
 pub mod Lengths
-pub mod Turns
-pub mod Buffers
 pub mod Numbers
+pub mod Parts
+pub mod Written

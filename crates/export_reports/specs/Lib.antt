@@ -1,4 +1,3 @@
-pub mod Bytes
 pub mod Report
 pub mod Runs
 pub mod State

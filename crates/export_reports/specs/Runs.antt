@@ -1,5 +1,5 @@
 -- What a script writes.
-use Rattle.std.specs.Prelude.{ℕ, ◌+◌, ◌&&◌, List, [], ◌∷◌, ◌++◌, leb}
+use Rattle.std.specs.Prelude.{ℕ, ◌&&◌, List, [], ◌∷◌, ◌++◌, leb}
 use Rattle.std.specs.Prelude.{if◌then◌else◌}
 use Rattle.rate_tables.specs.declared.adjusted.AdjustedProbabilityTables.{AdjustedProbabilityTables}
 use Rattle.gap_tables.specs.declared.gaps.UnanimousGapTables.{UnanimousGapTables}
@@ -7,15 +7,11 @@ use Rattle.rate_tables.specs.Adjusted.{adjusted_tables}
 use Rattle.gap_tables.specs.Gaps.{gap_tables}
 use Rattle.base_builder.specs.declared.builder.ConsensusBaseBuilder.{ConsensusBaseBuilder}
 use Rattle.base_builder.specs.Builder.{new_at, with_tie_rule}
-use Rattle.export_scripts.specs.declared.script.Progress.{Progress}
+use Rattle.export_scripts.specs.declared.item.Item.{Item}
+use Rattle.export_scripts.specs.declared.progress.Progress.{Progress}
 use Rattle.tie_rules.specs.Ties.{rule_of}
-use Rattle.export_scripts.specs.Script.{Item, event, question, items, is_script, passed}
-use Rattle.export_reports.specs.Report.{report_of}
-
--- what an item writes: a report for a question, and else nothing
-unfoldable pub said : UnanimousGapTables → Item → Progress → List ℕ
-said g (event e) p = []
-said g (question kind) p = report_of g p
+use Rattle.export_scripts.specs.Script.{items, is_script, passed}
+use Rattle.export_reports.specs.Report.{said}
 
 -- what items write in turn
 unfoldable pub reports : AdjustedProbabilityTables → UnanimousGapTables → List Item → Progress → List ℕ

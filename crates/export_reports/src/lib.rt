@@ -2,12 +2,10 @@
 // and gets back.
 #![tactic(auto)]
 
-mod bytes;
 mod report;
 mod runs;
 mod state;
 
-pub use bytes::number_bytes;
-pub use report::builder_bytes;
+pub use report::{builder_bytes, put_counts, put_patterns};
 pub use runs::{history, history_by};
 pub use state::{builder_of, from_state};

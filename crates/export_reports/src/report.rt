@@ -1,134 +1,90 @@
 // A report: 91 bytes on a builder.
-ghost use Rattle.std.specs.Prelude.{◌≡◌, ◌+◌, ◌≤◌, [], ltb, length};
-ghost use Rattle.std.specs.Prelude.{if◌then◌else◌};
-ghost use Rattle.unanimous_shortcut.specs.Unanimous.{tables_of};
-ghost use Rattle.export_reports.specs.Bytes.{Put};
-ghost use Rattle.export_reports.specs.Report.{patterns_of, counts_of, builder_bytes, call_bytes, reply_bytes, calls_bytes, report_of};
+ghost use Rattle.std.specs.Prelude.{◌≡◌};
+ghost use Rattle.lent_bytes.specs.Bytes.{joined, four_bytes};
+ghost use Rattle.lent_text.specs.Printed.{Printed};
+ghost use Rattle.export_reports.specs.Report.{pattern_of, builder_bytes, call_bytes, reply_bytes, calls_bytes, report_of};
 
-use crate::bytes::{put_byte, put_number};
 use base_builder::ConsensusBaseBuilder;
 use export_scripts::Progress;
-use export_ways::{Way, call_by, try_unanimous_fast_path_by};
-use lane_calls::{Call, Reply};
+use export_ways::Way;
+use gap_tables::UnanimousGapTables;
+use lane_calls::Call;
+use lent_text::Printer;
 
-fn put_patterns(out: &mut [u8], at: usize, numbers: [f64; 4]) -> usize
-    requires { at + 32 ≤ length out.old }
-    ensures { Put out.old at (patterns_of numbers) out.new result }
+// Numbers by their bit patterns of 8 bytes, the low byte first.
+pub fn put_patterns(p: &mut Printer, numbers: &[f64])
+    ensures { Printed p.old p.new (joined pattern_of numbers.now) }
 {
-    let a = put_number(out, at, float::pattern(numbers[0]), 8);
-    let c = put_number(out, a, float::pattern(numbers[1]), 8);
-    let g = put_number(out, c, float::pattern(numbers[2]), 8);
-    put_number(out, g, float::pattern(numbers[3]), 8)
+    // A place that is read is known to be one, also where there are no numbers.
+    let _at = p.at;
+    for x in numbers {
+        p.bytes(&float::pattern(*x).to_le_bytes());
+    }
 }
 
-fn put_counts(out: &mut [u8], at: usize, observations: [u32; 4]) -> usize
-    requires { at + 16 ≤ length out.old }
-    ensures { Put out.old at (counts_of observations) out.new result }
+// Counts of 4 bytes.
+pub fn put_counts(p: &mut Printer, counts: &[u32])
+    ensures { Printed p.old p.new (joined four_bytes counts.now) }
 {
-    let a = put_number(out, at, observations[0] as u64, 4);
-    let c = put_number(out, a, observations[1] as u64, 4);
-    let g = put_number(out, c, observations[2] as u64, 4);
-    put_number(out, g, observations[3] as u64, 4)
+    let _at = p.at;
+    for n in counts {
+        p.four(*n);
+    }
 }
 
-fn put_builder(out: &mut [u8], at: usize, builder: ConsensusBaseBuilder) -> usize
-    requires { at + 80 ≤ length out.old }
-    ensures { Put out.old at (builder_bytes builder) out.new result }
+fn put_builder(p: &mut Printer, builder: &ConsensusBaseBuilder)
+    ensures { Printed p.old p.new (builder_bytes builder.now) }
 {
-    let likelihoods = builder.likelihoods;
-    let compensations = builder.compensations;
-    let observations = builder.observations;
-    let a = put_patterns(out, at, likelihoods);
-    let b = put_patterns(out, a, compensations);
-    put_counts(out, b, observations)
+    put_patterns(p, &builder.likelihoods);
+    put_patterns(p, &builder.compensations);
+    put_counts(p, &builder.observations);
 }
 
 // A builder in 80 bytes.
-pub fn builder_bytes(builder: ConsensusBaseBuilder) -> [u8; 80]
-    ensures { result ≡ builder_bytes builder }
+pub fn builder_bytes(builder: &ConsensusBaseBuilder) -> [u8; 80]
+    ensures { result ≡ builder_bytes builder.now }
 {
-    let mut bytes = [0u8; 80];
-    put_builder(&mut bytes, 0, builder);
+    // kept: rule of the project: no heap, so a builder's bytes are a fixed array
+    let mut bytes = [0; 80];
+    let mut p = Printer {
+        out: &mut bytes,
+        at: 0,
+    };
+    put_builder(&mut p, builder);
     bytes
 }
 
-fn put_call(out: &mut [u8], at: usize, call: Call) -> usize
-    requires { at + 2 ≤ length out.old }
-    ensures { Put out.old at (call_bytes call) out.new result }
+fn put_call(p: &mut Printer, call: Call)
+    ensures { Printed p.old p.new (call_bytes call) }
 {
-    let qual = call.qual;
-    let a = put_byte(out, at, call.base);
-    put_byte(out, a, qual.0)
+    p.bytes(&[call.base, call.qual.0]);
 }
 
-fn put_reply(out: &mut [u8], at: usize, reply: Reply) -> usize
-    requires { at + 3 ≤ length out.old }
-    ensures { Put out.old at (reply_bytes reply) out.new result }
+fn put_reply(p: &mut Printer, reply: Option<Call>)
+    ensures { Printed p.old p.new (reply_bytes reply) }
 {
     match reply {
-        Reply::Replied(call) => {
-            let a = put_byte(out, at, 1);
-            put_call(out, a, call)
-        }
-        Reply::Deferred => put_number(out, at, 0, 3),
+        Some(call) => p.bytes(&[1, call.base, call.qual.0]),
+        None => p.bytes(&[0; 3]),
     }
 }
 
 // The four calls of a builder: both shortcuts, the long calculation, the call.
-fn put_calls(
-    way: Way,
-    out: &mut [u8],
-    at: usize,
-    builder: ConsensusBaseBuilder,
-    thresholds: &[f64; 94],
-    cerr_min: &[f64; 94],
-    cap: usize,
-) -> usize
-    requires { at + 10 ≤ length out.old }
-    ensures { Put out.old at (calls_bytes (tables_of thresholds.now cerr_min.now cap) builder) out.new result }
+fn put_calls<W: Way>(p: &mut Printer, builder: &ConsensusBaseBuilder, gaps: &UnanimousGapTables)
+    ensures { Printed p.old p.new (calls_bytes gaps.now builder.now) }
 {
-    let unanimous = try_unanimous_fast_path_by(way, builder, thresholds, cerr_min, cap);
+    let unanimous = W::try_unanimous_fast_path(builder, gaps);
     let multibase = builder.try_multibase_fast_path();
-    let a = put_reply(out, at, unanimous);
-    let b = put_reply(out, a, multibase);
-    let c = put_call(out, b, builder.call_full());
-    put_call(out, c, call_by(way, builder, thresholds, cerr_min, cap))
+    put_reply(p, unanimous);
+    put_reply(p, multibase);
+    put_call(p, builder.call_full());
+    put_call(p, W::call(builder, gaps));
 }
 
-fn put_report(
-    way: Way,
-    out: &mut [u8],
-    at: usize,
-    progress: Progress,
-    thresholds: &[f64; 94],
-    cerr_min: &[f64; 94],
-    cap: usize,
-) -> usize
-    requires { at + 91 ≤ length out.old }
-    ensures { Put out.old at (report_of (tables_of thresholds.now cerr_min.now cap) progress) out.new result }
+pub(crate) fn put_report<W: Way>(p: &mut Printer, progress: &Progress, gaps: &UnanimousGapTables)
+    ensures { Printed p.old p.new (report_of gaps.now progress.now) }
 {
-    let builder = progress.builder;
-    let a = put_builder(out, at, builder);
-    let b = put_calls(way, out, a, builder, thresholds, cerr_min, cap);
-    put_byte(out, b, progress.refused)
-}
-
-// What an item of this kind writes: a report for a question, and nothing for an event.
-pub(crate) fn put_item(
-    way: Way,
-    out: &mut [u8],
-    at: usize,
-    kind: u8,
-    progress: Progress,
-    thresholds: &[f64; 94],
-    cerr_min: &[f64; 94],
-    cap: usize,
-) -> usize
-    requires { 3 ≤ kind → at + 91 ≤ length out.old }
-    ensures { Put out.old at (if ltb kind 3 then [] else report_of (tables_of thresholds.now cerr_min.now cap) progress) out.new result }
-{
-    if kind < 3 {
-        return at;
-    }
-    put_report(way, out, at, progress, thresholds, cerr_min, cap)
+    put_builder(p, &progress.builder);
+    put_calls::<W>(p, &progress.builder, gaps);
+    p.byte(progress.refused);
 }

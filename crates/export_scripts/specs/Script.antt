@@ -1,27 +1,12 @@
 -- A script: items of three bytes each.
-use Rattle.std.specs.Prelude.{ℕ, ◌+◌, min, Bool, true, false, ◌&&◌, List, [], ◌∷◌, eqb, leb}
+use Rattle.std.specs.Prelude.{ℕ, ◌+◌, min, Bool, true, false, ◌&&◌, List, [], ◌∷◌, eqb, leb, Ok, Err, count_by}
 use Rattle.std.specs.Prelude.{if◌then◌else◌}
+use Rattle.refusals.specs.Result.{Result}
 use Rattle.rate_tables.specs.declared.adjusted.AdjustedProbabilityTables.{AdjustedProbabilityTables}
-use Rattle.tie_rules.specs.Ties.{rule_of}
-use Rattle.base_builder.specs.declared.builder.ConsensusBaseBuilder.{ConsensusBaseBuilder}
-use Rattle.base_builder.specs.declared.builder.Answer.{Answer}
-use Rattle.base_builder.specs.declared.builder.Answer.TheVariants.{Accepted, Refused}
-use Rattle.base_builder.specs.Builder.{add_answer}
-use Rattle.base_builder.specs.History.{Event, add, reset, set_tie_rule, step}
-use Rattle.export_scripts.specs.declared.script.Progress.{Progress}
-
--- an item: one of a builder's calls, or a question about the builder, by its number
-pub data Item : Type 0 where
-  event : Event → Item
-  question : ℕ → Item
-
--- the item of three bytes: 0 base quality, 1 _ _, 2 rule _, or a question
-unfoldable pub item_of : ℕ → ℕ → ℕ → Item
-item_of kind a b =
-    if eqb kind 0 then event (add a b)
-    else if eqb kind 1 then event reset
-    else if eqb kind 2 then event (set_tie_rule (rule_of a))
-    else question kind
+use Rattle.export_scripts.specs.declared.item.Item.{Item}
+use Rattle.export_scripts.specs.declared.item.Item.TheVariants.{Add, Reset, SetTieRule, Question}
+use Rattle.export_scripts.specs.declared.progress.Progress.{Progress}
+use Rattle.export_scripts.specs.Item.{item_of, stepped, answered}
 
 -- the items of a script
 unfoldable pub items : List ℕ → List Item
@@ -43,24 +28,22 @@ is_script most (kind ∷ []) = false
 is_script most (kind ∷ a ∷ []) = false
 is_script most (kind ∷ a ∷ b ∷ s) = is_item most kind a && is_script most s
 
--- how many questions there are
-unfoldable pub questions : List Item → ℕ
-questions [] = 0
-questions (event e ∷ is) = questions is
-questions (question kind ∷ is) = questions is + 1
+-- an item asks for a report
+abbrev pub is_question : Item → Bool
+is_question (Add base qual) = false
+is_question Reset = false
+is_question (SetTieRule rule) = false
+is_question (Question kind) = true
 
--- what an event is answered: only a base can be refused
-unfoldable pub answered : Event → ConsensusBaseBuilder → Answer
-answered (add base q) b = add_answer base b
-answered reset b = Accepted
-answered (set_tie_rule rule) b = Accepted
+-- how many questions there are
+abbrev pub questions : List Item → ℕ
+questions l = count_by is_question l
 
 -- the number of refusals after an answer; at most 255 are counted
-abbrev pub refusals : Answer → ℕ → ℕ
-refusals Accepted n = n
-refusals Refused n = min (n + 1) 255
+abbrev pub refusals : {A : Type 0} → Result A → ℕ → ℕ
+refusals (Ok a) n = n
+refusals (Err r) n = min (n + 1) 255
 
--- what an item does to a builder and the number of refusals; a question changes nothing
+-- what an item does to a builder and the number of refusals
 unfoldable pub passed : AdjustedProbabilityTables → Item → Progress → Progress
-passed t (event e) p = record { builder = step t e p.builder; refused = refusals (answered e p.builder) p.refused }
-passed t (question kind) p = p
+passed t i p = record { builder = stepped t i p.builder; refused = refusals (answered i p.builder) p.refused }

@@ -1,6 +1,10 @@
-// A list of a builder's calls in bytes: its items, and what each does to a builder.
+// A list of a builder's calls in bytes: its items, and what a builder has been through.
 #![tactic(auto)]
 
+mod item;
+mod progress;
 mod script;
 
-pub use script::{Progress, is_script, pass, questions_in, refusals_after};
+pub use item::Item;
+pub use progress::Progress;
+pub use script::{Items, is_script, questions_in};

@@ -1,2 +1,1 @@
-pub mod ScriptAmounts
-pub mod ColumnAmounts
+pub mod Sums

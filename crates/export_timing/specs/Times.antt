@@ -8,20 +8,19 @@ use Rattle.gap_tables.specs.Gaps.{gap_tables}
 use Rattle.base_builder.specs.declared.builder.ConsensusBaseBuilder.{ConsensusBaseBuilder}
 use Rattle.base_builder.specs.Builder.{new_at, with_tie_rule}
 use Rattle.base_builder.specs.Calls.{call_full_of, call_of}
-use Rattle.base_builder.specs.History.{step}
 use Rattle.tie_rules.specs.Ties.{rule_of}
-use Rattle.export_scripts.specs.Script.{Item, event, question, items, is_script}
+use Rattle.export_scripts.specs.declared.item.Item.{Item}
+use Rattle.export_scripts.specs.declared.item.Item.TheVariants.{Add, Reset, SetTieRule, Question}
+use Rattle.export_scripts.specs.Item.{stepped}
+use Rattle.export_scripts.specs.Script.{items, is_script}
 use Rattle.export_timing.specs.Amounts.{amount_of}
-
--- what an item does to a builder; a question changes nothing
-unfoldable pub stepped : AdjustedProbabilityTables → Item → ConsensusBaseBuilder → ConsensusBaseBuilder
-stepped t (event e) b = step t e b
-stepped t (question kind) b = b
 
 -- what an item adds: question 3 the call's amount, any other the long calculation's
 unfoldable pub amount_at : UnanimousGapTables → Item → ConsensusBaseBuilder → ℕ
-amount_at g (event e) b = 0
-amount_at g (question kind) b =
+amount_at g (Add base qual) b = 0
+amount_at g Reset b = 0
+amount_at g (SetTieRule rule) b = 0
+amount_at g (Question kind) b =
     if kind == 3 then amount_of (call_of g b)
     else amount_of (call_full_of b)
 

@@ -1,3 +1,4 @@
 pub mod Codes
 pub mod Asked
+pub mod Numbered
 pub mod Sent

@@ -1,113 +1,69 @@
 // Replies in one number, and the functions at the defaults.
-ghost use Rattle.std.specs.Prelude.{◌≡◌, ◌≤◌};
-ghost use Rattle.simple_consensus.specs.Answers.{answer_length};
-ghost use Rattle.umi_groups.specs.Found.{flagged_length};
-ghost use Rattle.simple_umi.specs.Answers.{duplex_length};
-ghost use Rattle.export_umi.specs.Codes.{bit, given_code, answer_code, flagged_code, duplex_code, umi_reply, umi_buffer};
+ghost use Rattle.std.specs.Prelude.{◌≡◌, false, unwrap_or};
+ghost use Rattle.refusals.specs.Result.{map_ok};
+ghost use Rattle.umi_groups.specs.Found.{buffer_after};
+ghost use Rattle.simple_consensus.specs.Answers.{consensus_umis_in};
+ghost use Rattle.export_umi.specs.Asked.{given_of};
+ghost use Rattle.export_umi.specs.Codes.{given_code, code_of};
+ghost use Rattle.export_umi.specs.Numbered.{umi_reply, umi_buffer};
 
-use refusals::number;
-use simple_umi::{
-    Answer, DuplexAnswer, FlaggedAnswer, SimpleConsensusCaller, SimpleUmiConsensusCaller,
-    consensus_umis,
-};
+use crate::asked::{Question, ask};
+use refusals::Refusal;
+use simple_umi::{SimpleConsensusCaller, consensus_umis};
 
-fn flag(b: bool) -> u64
-    ensures { (result ≡ bit b) × (result ≤ 1) }
-{
-    if b {
-        return 1;
+// How long a string is, which is at most 255 bytes, and the two flags: false where the function has none.
+#[derive(Clone, Copy, Debug, PartialEq, Eq)]
+pub struct Given {
+    pub length: u8,
+    pub had_errors_a: bool,
+    pub had_errors_b: bool,
+}
+
+impl Given {
+    // All in one number, above every refusal's.
+    pub fn code(self) -> u64
+        ensures { result ≡ given_code self.length self.had_errors_a self.had_errors_b }
+    {
+        256 + 4 * u64::from(self.length)
+            + 2 * u64::from(self.had_errors_b)
+            + u64::from(self.had_errors_a)
     }
-    0
 }
 
-// The length of the string and two flags in one number, above every refusal's.
-fn given(n: usize, a: bool, b: bool) -> u64
-    requires { n ≤ 255 }
-    ensures { result ≡ given_code n a b }
-{
-    256 + 4 * (n as u64) + 2 * flag(b) + flag(a)
-}
-
-pub(crate) fn answer_code(answer: Answer) -> u64
-    requires { answer_length answer ≤ 255 }
-    ensures { result ≡ answer_code answer }
+// The code of an answer: the number of a refusal, or that of what is given.
+fn code_of(answer: Result<Given, Refusal>) -> u64
+    ensures { result ≡ code_of answer }
 {
     match answer {
-        Answer::Refused(r) => number(r) as u64,
-        Answer::Given(n) => given(n, false, false),
+        Ok(given) => given.code(),
+        Err(refusal) => u64::from(u8::from(refusal)),
     }
 }
 
-pub(crate) fn flagged_code(answer: FlaggedAnswer) -> u64
-    requires { flagged_length answer ≤ 255 }
-    ensures { result ≡ flagged_code answer }
+// What consensus_umis gives, which has no flag.
+fn umis_given(set: &[u8], out: &mut [u8]) -> Result<Given, Refusal>
+    ensures given { result ≡ map_ok (λ f. given_of f false false) (consensus_umis_in set.now out.old) }
+    ensures lent { out.new ≡ buffer_after out.old (consensus_umis_in set.now out.old) }
 {
-    match answer {
-        FlaggedAnswer::Refused(r) => number(r) as u64,
-        FlaggedAnswer::Given(n, a) => given(n, a, false),
-    }
+    let length = consensus_umis(set, out)?;
+    Ok(Given {
+        length: length as u8,
+        had_errors_a: false,
+        had_errors_b: false,
+    })
 }
 
-pub(crate) fn duplex_code(answer: DuplexAnswer) -> u64
-    requires { duplex_length answer ≤ 255 }
-    ensures { result ≡ duplex_code answer }
-{
-    match answer {
-        DuplexAnswer::Refused(r) => number(r) as u64,
-        DuplexAnswer::Given(n, a, b) => given(n, a, b),
-    }
-}
-
-// The length of the string, 0 for a refusal.
-pub(crate) fn answer_length(answer: Answer) -> usize
-    ensures { result ≡ answer_length answer }
-{
-    match answer {
-        Answer::Refused(_) => 0,
-        Answer::Given(n) => n,
-    }
-}
-
-pub(crate) fn flagged_length(answer: FlaggedAnswer) -> usize
-    ensures { result ≡ flagged_length answer }
-{
-    match answer {
-        FlaggedAnswer::Refused(_) => 0,
-        FlaggedAnswer::Given(n, _) => n,
-    }
-}
-
-pub(crate) fn duplex_length(answer: DuplexAnswer) -> usize
-    ensures { result ≡ duplex_length answer }
-{
-    match answer {
-        DuplexAnswer::Refused(_) => 0,
-        DuplexAnswer::Given(n, _, _) => n,
-    }
-}
-
-// 0 call_consensus, 1 consensus, 2 consensus_umis, 3 consensus_duplex; another number gives 0.
-pub fn umi(which: u8, set: &[u8], out: &mut [u8]) -> u64
-    ensures reply { result ≡ umi_reply which set.now out.old }
+// 0 call_consensus, 1 consensus, 2 consensus_umis, 3 consensus_duplex; none by another number.
+// kept: C's interface: the function by its number
+#[tactic(auto, unfolding(crate::specs::Numbered::umi_reply, crate::specs::Numbered::umi_buffer))]
+pub fn umi(which: u8, set: &[u8], out: &mut [u8]) -> Option<u64>
+    ensures reply { unwrap_or result 0 ≡ umi_reply which set.now out.old }
     ensures lent { out.new ≡ umi_buffer which set.now out.old }
 {
-    match which {
-        0 => {
-            let consensus = SimpleConsensusCaller::default().call_consensus(set, out);
-            let answer = consensus.answer;
-            answer_code(answer)
-        }
-        1 => {
-            let consensus = SimpleUmiConsensusCaller::default().consensus(set, out);
-            let answer = consensus.answer;
-            flagged_code(answer)
-        }
-        2 => answer_code(consensus_umis(set, out)),
-        3 => {
-            let consensus = SimpleUmiConsensusCaller::default().consensus_duplex(set, out);
-            let answer = consensus.answer;
-            duplex_code(answer)
-        }
-        _ => 0,
+    if which == 2 {
+        return Some(code_of(umis_given(set, out)));
     }
+    let question = Question::of(which)?;
+    let asked = ask(question, SimpleConsensusCaller::default(), set, out);
+    Some(code_of(asked.map(|a| a.given)))
 }

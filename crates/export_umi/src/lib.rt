@@ -7,5 +7,5 @@ mod codes;
 mod sent;
 
 pub use asked::{Asked, Question, ask};
-pub use codes::umi;
+pub use codes::{Given, umi};
 pub use sent::umi_caller;

@@ -1,49 +1,40 @@
 // The functions of a new caller, with its builder afterwards behind the string.
-ghost use Rattle.std.specs.Prelude.{◌≡◌, ◌++◌, leb, length};
-ghost use Rattle.std.specs.Prelude.{if◌then◌else◌};
-ghost use Rattle.lent_bytes.specs.Buffer.{written};
-ghost use Rattle.export_reports.specs.Report.{builder_bytes};
+// kept: no plainer: what is read and the buffer that is written are two borrows, which a struct would only join
+ghost use Rattle.std.specs.Prelude.{◌≡◌, unwrap_or};
 ghost use Rattle.simple_consensus.specs.Consensus.{caller_at};
 ghost use Rattle.export_umi.specs.Sent.{asked_reply, asked_buffer, caller_reply, caller_buffer};
 
 use crate::asked::{Question, ask};
-use base_builder::ConsensusBaseBuilder;
 use export_reports::builder_bytes;
 use lent_bytes::write_both;
 use phred::PhredScore;
+use refusals::Refusal;
 use simple_umi::SimpleConsensusCaller;
 
-// The string and the builder, and the code; or 10 where the buffer can't hold both.
-fn send(code: u64, text: &[u8], builder: ConsensusBaseBuilder, out: &mut [u8]) -> u64
-    ensures reply { result ≡ (if leb (length (text.now ++ builder_bytes builder)) (length out.old) then code else 10) }
-    ensures lent { out.new ≡ written (text.now ++ builder_bytes builder) out.old }
-{
-    let bytes = builder_bytes(builder);
-    if write_both(out, text, &bytes) {
-        return code;
-    }
-    10
-}
-
+// The string and the builder, and the code; or the number of a refusal, 10 where the buffer can't hold both.
 // A string has at most 255 bytes.
 fn send_asked(question: Question, caller: SimpleConsensusCaller, set: &[u8], out: &mut [u8]) -> u64
     ensures reply { result ≡ asked_reply question caller set.now out.old }
     ensures lent { out.new ≡ asked_buffer question caller set.now out.old }
 {
-    let mut text = [0u8; 255];
-    let asked = ask(question, caller, set, &mut text);
-    let code = asked.code;
-    // Below 256 it is the number of a refusal.
-    if code < 256 {
-        return code;
+    // kept: rule of the project: no heap, so the string lies in a fixed array
+    let mut text = [0; 255];
+    match ask(question, caller, set, &mut text) {
+        Ok(asked) => {
+            let state = builder_bytes(&asked.caller.builder);
+            if write_both(out, &text[..usize::from(asked.given.length)], &state) {
+                asked.given.code()
+            } else {
+                u64::from(u8::from(Refusal::BufferTooShort))
+            }
+        }
+        Err(refusal) => u64::from(u8::from(refusal)),
     }
-    let n = asked.length;
-    let after = asked.caller;
-    let builder = after.builder;
-    send(code, &text[..n], builder, out)
 }
 
-// 0 call_consensus, 1 consensus, 3 consensus_duplex, for a new caller; another number gives 0.
+// 0 call_consensus, 1 consensus, 3 consensus_duplex, for a new caller; none by another number.
+// kept: C's interface: the function by its number, and the rates apart
+#[tactic(auto, unfolding(crate::specs::Sent::caller_reply, crate::specs::Sent::caller_buffer))]
 pub fn umi_caller(
     pre: PhredScore,
     post: PhredScore,
@@ -51,15 +42,11 @@ pub fn umi_caller(
     which: u8,
     set: &[u8],
     out: &mut [u8],
-) -> u64
-    ensures reply { result ≡ caller_reply which (caller_at pre.0 post.0 quality.0) set.now out.old }
+) -> Option<u64>
+    ensures reply { unwrap_or result 0 ≡ caller_reply which (caller_at pre.0 post.0 quality.0) set.now out.old }
     ensures lent { out.new ≡ caller_buffer which (caller_at pre.0 post.0 quality.0) set.now out.old }
 {
+    let question = Question::of(which)?;
     let caller = SimpleConsensusCaller::new(pre, post, quality);
-    match which {
-        0 => send_asked(Question::CallConsensus, caller, set, out),
-        1 => send_asked(Question::Consensus, caller, set, out),
-        3 => send_asked(Question::ConsensusDuplex, caller, set, out),
-        _ => 0,
-    }
+    Some(send_asked(question, caller, set, out))
 }

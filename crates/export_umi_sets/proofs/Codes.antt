@@ -1,5 +1,8 @@
 -- The code in a set's answer: with 335 bytes it is the reply, and as no string is longer than 255 bytes nothing is refused for want of room. Assumes nothing.
+use Rattle.std.specs.Prelude.{Err, Ok}
+use Rattle.std.specs.List.{list_any}
 use mathlib.Core.Path.{◌≡◌, refl}
+use mathlib.Core.Bool.{false}
 use mathlib.Core.List.{List, [], ◌∷◌}
 use Prim.Native.Nat.{ℕ, zero, suc, ◌+◌, ◌-◌, ◌≤◌, ◌<◌}
 use native.Mathlib.Omega.{arith}
@@ -8,11 +11,9 @@ use lib.Dec.{ltb, leb}
 use lib.ListN.{length, length-append}
 use lib.Seq.{length-take-le, get_or-drop}
 use Rattle.words.proofs.Cases.{test, choice}
-use Rattle.words.specs.Lists.{any, is_empty, byte_at}
-use Rattle.refusals.specs.declared.Verdict.{Verdict}
-use Rattle.refusals.specs.declared.Verdict.TheVariants.{Sound, Refused}
-use Rattle.refusals.specs.Refusals.{number_of, verdict_number}
-use Rattle.refusals.specs.Result.{Result, refused, accepted, and_then, judged, or_else, first_refused}
+use Rattle.words.specs.Lists.{is_empty, byte_at}
+use Rattle.refusals.specs.Refusals.{number_of, number_in}
+use Rattle.refusals.specs.Result.{Result, and_then, judged, or_else, first_refused, map_ok, Verdict}
 use Rattle.string_set.specs.Readers.{Taken, taken, short, next, byte, front, many, alone}
 use Rattle.string_set.specs.StringSet.{string, string_set, read_set}
 use Rattle.export_reports.specs.Report.{builder_bytes}
@@ -25,15 +26,17 @@ use Rattle.simple_consensus.specs.Verdicts.{family_verdict, consensus_verdict, u
 use Rattle.umi_groups.specs.Found.{Found}
 use Rattle.simple_consensus.specs.Consensus.{with_builder, first_found, found, consensus_of, call_consensus_of}
 use Rattle.simple_umi.specs.Duplex.{FoundDuplex, ends_in, strand_of, paired, duplex_of}
-use Rattle.umi_groups.specs.Found.{room_for, flagged_of}
-use Rattle.simple_consensus.specs.Answers.{call_consensus_in, answer_of}
-use Rattle.simple_umi.specs.Answers.{consensus_in, duplex_in, duplex_answer_of, pair_found}
+use Rattle.umi_groups.specs.Found.{room_for}
+use Rattle.simple_consensus.specs.Answers.{call_consensus_in}
+use Rattle.simple_umi.specs.Answers.{consensus_in, duplex_in, pair_found}
 use Rattle.simple_consensus.proofs.Groups.{found_length_lem}
 use Rattle.umi_groups.proofs.Room.{room_enough}
 use Rattle.simple_umi.proofs.Strands.{strand_kept, strand_left}
 use Rattle.export_umi.specs.declared.asked.Question.{Question}
 use Rattle.export_umi.specs.declared.asked.Question.TheVariants.{CallConsensus, Consensus, ConsensusDuplex}
-use Rattle.export_umi.specs.Codes.{answer_code, flagged_code, duplex_code}
+use Rattle.export_umi.specs.declared.asked.Asked.{Asked}
+use Rattle.export_umi.specs.Codes.{code_of}
+use Rattle.export_umi.specs.Asked.{asked_of}
 use Rattle.export_umi.specs.Sent.{room_for_string, sent_record, sent_reply, caller_reply}
 use Rattle.export_umi_sets.specs.Codes.{SameReply, NeverTen, Codes}
 
@@ -41,28 +44,28 @@ use Rattle.export_umi_sets.specs.Codes.{SameReply, NeverTen, Codes}
 
 -- a string that was found has room
 abbrev Short : Result Found → Type 0
-Short (refused r) = Unit {0}
-Short (accepted f) = length f.text ≤ 255
+Short (Err r) = Unit {0}
+Short (Ok f) = length f.text ≤ 255
 
 room_short : (f : Found) → Short (room_for room_for_string f)
 unfolding room_for
 room_short f = choice Short (ltb 255 (length f.text)) _ _ (λ e. tt) (λ e. ltb-false 255 (length f.text) e)
 
 in_short : (t : Result Found) → Short (and_then t (room_for room_for_string))
-in_short (refused r) = tt
-in_short (accepted f) = room_short f
+in_short (Err r) = tt
+in_short (Ok f) = room_short f
 
-pair_short : (t : Result FoundDuplex) → Short (pair_found (and_then t (λ d. and_then (room_for room_for_string d.found) (λ f. accepted d))))
+pair_short : (t : Result FoundDuplex) → Short (pair_found (and_then t (λ d. and_then (room_for room_for_string d.found) (λ f. Ok d))))
 unfolding room_for
-pair_short (refused r) = tt
-pair_short (accepted d) =
-    choice (λ (t : Result Found). Short (pair_found (and_then t (λ f. accepted d)))) (ltb 255 (length d.found.text)) _ _
+pair_short (Err r) = tt
+pair_short (Ok d) =
+    choice (λ (t : Result Found). Short (pair_found (and_then t (λ f. Ok d)))) (ltb 255 (length d.found.text)) _ _
     (λ e. tt) (λ e. ltb-false 255 (length d.found.text) e)
 
 -- so it is sent, with the builder's 80 bytes
 same_code : (code : ℕ) (out : List ℕ) → 335 ≤ length out → (t : Result Found) → Short t → code ≡ sent_reply code t out
-same_code code out h (refused r) s = refl
-same_code code out h (accepted f) s =
+same_code code out h (Err r) s = refl
+same_code code out h (Ok f) s =
     let size : length (sent_record f) ≤ length out = rw (length-append f.text (builder_bytes f.builder)) (omega (arith, builder_length f.builder)) in
     rw (le-leb (length (sent_record f)) (length out) size)
 
@@ -81,12 +84,12 @@ same_duplex c set out h = same_code _ out h (pair_found (duplex_in c set room_fo
 -- ---- never 10: P holds of what is accepted, and nothing is refused by 10
 
 abbrev All : {A : Type 0} → (A → Type 0) → Result A → Type 0
-All P (refused r) = number_of r ≡ 10 → ⊥
-All P (accepted a) = P a
+All P (Err r) = number_of r ≡ 10 → ⊥
+All P (Ok a) = P a
 
 then_all : {A B : Type 0} (P : A → Type 0) (Q : B → Type 0) (t : Result A) (f : A → Result B) → All P t → ((a : A) → P a → All Q (f a)) → All Q (and_then t f)
-then_all P Q (refused r) f h k = h
-then_all P Q (accepted a) f h k = k a h
+then_all P Q (Err r) f h k = h
+then_all P Q (Ok a) f h k = k a h
 
 -- ---- what is read
 
@@ -142,11 +145,11 @@ read_all s h =
 -- ---- what is refused of strings
 
 abbrev NotTen : Verdict → Type 0
-NotTen v = verdict_number v ≡ 10 → ⊥
+NotTen v = number_in v ≡ 10 → ⊥
 
 either_not : (v w : Verdict) → NotTen v → NotTen w → NotTen (or_else v w)
-either_not Sound w h k = k
-either_not (Refused r) w h k = h
+either_not (Ok _) w h k = k
+either_not (Err r) w h k = h
 
 first_not : {A : Type 0} (verdict : A → Verdict) → ((a : A) → NotTen (verdict a)) → (l : List A) → NotTen (first_refused verdict l)
 first_not verdict h [] = λ e. omega arith
@@ -155,14 +158,14 @@ first_not verdict h (a ∷ l) = either_not (verdict a) (first_refused verdict l)
 column_not : (column : List ℕ) → NotTen (verdict_of column)
 unfolding verdict_of
 column_not column =
-    choice NotTen (any (is_unlike (byte_at column 0)) column) _ _ (λ e f. omega arith)
+    choice NotTen (list_any (is_unlike (byte_at column 0)) column) _ _ (λ e f. omega arith)
     (λ e. choice NotTen (is_mixed column) _ _ (λ k f. omega arith) (λ k f. omega arith))
 
 consensus_not : (strings : List (List ℕ)) → NotTen (consensus_verdict strings)
 unfolding consensus_verdict family_verdict
 consensus_not strings =
     choice NotTen (is_family strings) _ _
-    (λ e. choice NotTen (any (any is_high) strings) _ _ (λ k f. omega arith) (λ k. first_not verdict_of column_not (columns_of (length (first_of strings)) strings)))
+    (λ e. choice NotTen (list_any (list_any is_high) strings) _ _ (λ k f. omega arith) (λ k. first_not verdict_of column_not (columns_of (length (first_of strings)) strings)))
     (λ e f. omega arith)
 
 call_not : (strings : List (List ℕ)) → NotTen (call_verdict strings)
@@ -177,8 +180,8 @@ abbrev Fits : Found → Type 0
 Fits f = length f.text ≤ 255
 
 judged_all : {A : Type 0} (P : A → Type 0) (v : Verdict) (a : A) → NotTen v → P a → All P (judged v a)
-judged_all P Sound a h k = k
-judged_all P (Refused r) a h k = h
+judged_all P (Ok _) a h k = k
+judged_all P (Err r) a h k = h
 
 first_fits : (strings : List (List ℕ)) → Strings strings → length (first_of strings) ≤ 255
 first_fits [] h = omega arith
@@ -218,31 +221,23 @@ duplex_all c strings h =
 
 -- ---- the codes
 
-answer_not : (t : Result Found) → All Fits t → answer_code (answer_of t) ≡ 10 → ⊥
-answer_not (refused r) h = h
-answer_not (accepted f) h = λ e. omega arith
-
-flagged_not : (t : Result Found) → All Fits t → flagged_code (flagged_of t) ≡ 10 → ⊥
-flagged_not (refused r) h = h
-flagged_not (accepted f) h = λ e. omega arith
-
-duplex_not : (t : Result FoundDuplex) → All (λ d. Fits d.found) t → duplex_code (duplex_answer_of t) ≡ 10 → ⊥
-duplex_not (refused r) h = h
-duplex_not (accepted d) h = λ e. omega arith
+answer_not : {A : Type 0} (P : A → Type 0) (asked : A → Asked) (t : Result A) → All P t → code_of (map_ok (λ a. a.given) (map_ok asked t)) ≡ 10 → ⊥
+answer_not P asked (Err r) h = h
+answer_not P asked (Ok a) h = λ e. omega arith
 
 never_ten : (q : Question) → NeverTen q
 unfolding call_consensus_in consensus_in duplex_in
 never_ten CallConsensus c set h =
-    answer_not (call_consensus_in c set room_for_string)
+    answer_not Fits (λ f. asked_of c f false false) (call_consensus_in c set room_for_string)
     (then_all Fits Fits (and_then (read_set set) (call_consensus_of c)) (room_for room_for_string)
     (then_all Strings Fits (read_set set) (call_consensus_of c) (read_all set h)
     (λ l x. judged_all Fits (call_verdict l) (found c l) (call_not l) (found_fits c l x))) room_all)
 never_ten Consensus c set h =
-    flagged_not (consensus_in c set room_for_string)
+    answer_not Fits (λ f. asked_of c f f.had_errors false) (consensus_in c set room_for_string)
     (then_all Fits Fits (and_then (read_set set) (consensus_of c)) (room_for room_for_string)
     (then_all Strings Fits (read_set set) (consensus_of c) (read_all set h) (said_all c)) room_all)
 never_ten ConsensusDuplex c set h =
-    duplex_not (duplex_in c set room_for_string)
+    answer_not (λ d. Fits d.found) (λ d. asked_of c d.found d.found.had_errors d.had_errors_b) (duplex_in c set room_for_string)
     (then_all (λ d. Fits d.found) (λ d. Fits d.found) (and_then (read_set set) (duplex_of c)) _
     (then_all Strings (λ d. Fits d.found) (read_set set) (duplex_of c) (read_all set h) (duplex_all c))
     (λ d x. then_all Fits (λ d. Fits d.found) (room_for room_for_string d.found) _ (room_all d.found x) (λ f y. x)))

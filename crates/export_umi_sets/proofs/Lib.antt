@@ -1,3 +1,3 @@
 pub mod Walk
-pub mod Buffers
+pub mod Set
 pub mod Codes

@@ -1,80 +1,48 @@
--- Sets by the places of their lengths: a step, and the walk over all of them. Assumes nothing.
-use mathlib.Core.Path.{◌≡◌, refl, sym, ◌∙◌, ap, subst}
-use mathlib.Core.List.{List, [], ◌∷◌, ◌++◌, append_assoc}
+-- Sets one after another: a step, and the walk over all of them. Assumes nothing.
+use mathlib.Core.Path.{◌≡◌, refl, sym, ◌∙◌, ap}
+use mathlib.Core.List.{List, [], ◌∷◌, ◌++◌, append_assoc, append-nil}
 use Prim.Native.Nat.{ℕ, zero, suc, ◌+◌, ◌-◌, ◌≤◌, ◌<◌}
 use native.Mathlib.Omega.{arith}
-use borrow.Author.Tests.{le-leb, lt-leb, leb-true, leb-false}
-use lib.Dec.{leb}
-use lib.ListN.{length, take, drop, length-drop, drop_of_length-le}
-use Rattle.words.proofs.Cases.{test, choice}
+use borrow.Author.Tests.{le-leb, lt-leb}
+use lib.ListN.{length, take, drop}
+use Rattle.std.proofs.Common.{Option, Some, None, Bor, MatchOption, IsNone, OnSome}
+use Rattle.std.specs.List.{IsSplitAt}
 use Rattle.lent_bytes.specs.Bytes.{number_at}
-use Rattle.string_set.specs.Readers.{Taken, taken, short, next}
-use Rattle.string_set.proofs.Readers.{front_at, front-end, prepend}
+use Rattle.string_set.specs.Readers.{Taken, taken, short, next, front}
+use Rattle.string_set.proofs.Readers.{prepend}
 use Rattle.simple_consensus.specs.declared.caller.SimpleConsensusCaller.{SimpleConsensusCaller}
 use Rattle.export_umi.specs.declared.asked.Question.{Question}
-use Rattle.export_umi_sets.specs.declared.places.SetPlace.{SetPlace}
-use Rattle.export_umi_sets.specs.declared.places.SetPlace.TheVariants as place
 use Rattle.export_umi_sets.specs.Reading.{set_size, sized_set, sets_within}
-use Rattle.export_umi_sets.specs.Answers.{after_set, set_bytes, sets_bytes}
-use Rattle.export_umi_sets.specs.Places.{size_at, set_at}
+use Rattle.export_umi_sets.specs.Answers.{after_set, set_bytes, sets_bytes, answers_to}
 
--- ---- a step
+-- ---- a set at the front
 
-module _ (s : List ℕ) (at : ℕ) where
-  pub place-past : length s < at + 4 + size_at s at → place.Past ≡ set_at s at
-  unfolding set_at
-  place-past h = rw (lt-leb (at + 4 + size_at s at) (length s) h)
+front_whole : (n : ℕ) (r : List ℕ) → n ≤ length r → front n r ≡ taken (take n r) (drop n r)
+unfolding front
+front_whole n r h = rw (le-leb n (length r) h)
 
-  pub place_at : (n : ℕ) → n ≡ size_at s at → at + 4 + n ≤ length s → place.At (at + 4) (at + 4 + n) ≡ set_at s at
-  unfolding set_at
-  place_at n e h = rw (← e, le-leb (at + 4 + n) (length s) h)
+front_cut : (n : ℕ) (r : List ℕ) → length r < n → front n r ≡ short
+unfolding front
+front_cut n r h = rw (lt-leb n (length r) h)
 
--- what its answer says
-abbrev Said : List ℕ → ℕ → SetPlace → Type 0
-Said s at place.Past = length s < at + 4 + size_at s at
-Said s at (place.At start end) = (start ≡ at + 4) × (end ≡ at + 4 + size_at s at) × (at + 4 + size_at s at ≤ length s)
+module _ (s : List ℕ) where
+  pub no_size : length s < 4 → sized_set s ≡ short
+  unfolding sized_set set_size
+  no_size h = rw (front_cut 4 s h)
 
-said : (s : List ℕ) (at : ℕ) → Said s at (set_at s at)
-unfolding set_at
-said s at = choice (Said s at) (leb (at + 4 + size_at s at) (length s)) _ _ (λ k. (refl, refl, leb-true _ _ k)) (λ k. leb-false _ _ k)
+  set_cut : 4 ≤ length s → length (drop 4 s) < number_at s 4 0 → sized_set s ≡ short
+  unfolding sized_set set_size number_at
+  set_cut h k = rw (front_whole 4 s h, front_cut (number_at s 4 0) (drop 4 s) k)
 
-module _ (s : List ℕ) (at : ℕ) (r : SetPlace) (e : r ≡ set_at s at) where
-  pub said_past : r ≡ place.Past → length s < at + 4 + size_at s at
-  said_past k = subst (Said s at) (sym e ∙ k) (said s at)
+  set_whole : 4 ≤ length s → number_at s 4 0 ≤ length (drop 4 s) → sized_set s ≡ taken (take (number_at s 4 0) (drop 4 s)) (drop (number_at s 4 0) (drop 4 s))
+  unfolding sized_set set_size number_at
+  set_whole h k = rw (front_whole 4 s h, front_whole (number_at s 4 0) (drop 4 s) k)
 
-  pub said_at : (start end : ℕ) → r ≡ place.At start end → (start ≡ at + 4) × (end ≡ at + 4 + size_at s at) × (at + 4 + size_at s at ≤ length s)
-  said_at start end k = subst (Said s at) (sym e ∙ k) (said s at)
-
--- ---- a set read there
-
-module _ (s : List ℕ) (at : ℕ) where
-  four_at : at + 4 ≤ length s → set_size (drop at s) ≡ taken (size_at s at) (drop (at + 4) s)
-  unfolding set_size number_at
-  four_at h = rw (front_at s at 4 h)
-
-  four_end : at ≤ length s → length s < at + 4 → set_size (drop at s) ≡ short
-  unfolding set_size
-  four_end k h = rw (front-end s at 4 k h)
-
-  -- the set at the place
-  abbrev pub set_there : List ℕ
-  set_there = take (size_at s at) (drop (at + 4) s)
-
-  pub part_there : (start end : ℕ) → start ≡ at + 4 → end ≡ at + 4 + size_at s at → take (end - start) (drop start s) ≡ set_there
-  part_there start end x y =
-      let e : end - start ≡ size_at s at = omega arith in
-      rw (e, x)
-
-  set_read : at + 4 + size_at s at ≤ length s → sized_set (drop at s) ≡ taken set_there (drop (at + 4 + size_at s at) s)
-  unfolding sized_set
-  set_read h = rw (four_at (omega arith), front_at s (at + 4) (size_at s at) h)
-
-  set_cut : at ≤ length s → length s < at + 4 + size_at s at → sized_set (drop at s) ≡ short
-  unfolding sized_set
-  set_cut l h =
-      test (leb (at + 4) (length s))
-      (λ t. let k : at + 4 ≤ length s = leb-true (at + 4) (length s) t in rw (four_at k, front-end s (at + 4) (size_at s at) k h))
-      (λ t. rw (four_end l (leb-false (at + 4) (length s) t)))
+  -- by what std's cut at that place gives
+  pub set_split : (r : Option (Bor (List ℕ) × Bor (List ℕ))) → 4 ≤ length s → MatchOption r (length (drop 4 s) < number_at s 4 0) (λ p. IsSplitAt (drop 4 s) (number_at s 4 0) p.0.now p.1.now)
+      → MatchOption r (sized_set s ≡ short) (λ p. sized_set s ≡ taken p.0.now p.1.now)
+  set_split None h k = set_cut h k
+  set_split (Some p) h k = rw (k.1, k.2) (set_whole h k.0)
 
 -- ---- the walk
 
@@ -108,23 +76,35 @@ prepend_twice : (a b : List ℕ) (t : Taken (List ℕ)) → prepend a (prepend b
 prepend_twice a b short = refl
 prepend_twice a b (taken m r) = ap (λ (l : List ℕ). taken l r) (sym (append_assoc a b m))
 
--- a turn of the loop: `done` is put already, and at most k sets are left from a place on
-module _ (q : Question) (c : SimpleConsensusCaller) (s : List ℕ) (at k : ℕ) (done : List ℕ) where
-  left_some : at < length s → 0 < length (drop at s)
-  left_some h = rw (length-drop at s) (omega arith)
+-- a turn of the loop: `done` is printed already, and at most k sets are left
+module _ (q : Question) (c : SimpleConsensusCaller) (r : List ℕ) (k : ℕ) (done : List ℕ) (some : 0 < length r) (few : length r ≤ k) where
+  pub turn : (set others : List ℕ) → sized_set r ≡ taken set others
+      → prepend (done ++ set_bytes q c set) (answered q (after_set q c set) (sets_within (k - 1) others)) ≡ prepend done (answered q c (sets_within k r))
+  turn set others e =
+      let t = sets_within (k - 1) others in
+      sym (rw (within_more k r (omega arith) some, e, answered_next q c set t) (prepend_twice done (set_bytes q c set) (answered q (after_set q c set) t)))
 
-  pub turn : at < length s → length s ≤ at + k → at + 4 + size_at s at ≤ length s
-      → (end : ℕ) (d : SimpleConsensusCaller) → end ≡ at + 4 + size_at s at → d ≡ after_set q c (set_there s at)
-      → prepend (done ++ set_bytes q c (set_there s at)) (answered q d (sets_within (k - 1) (drop end s))) ≡ prepend done (answered q c (sets_within k (drop at s)))
-  turn h l i end d x y =
-      let t = sets_within (k - 1) (drop (at + 4 + size_at s at) s) in
-      rw (x, y)
-      (sym (rw (within_more k (drop at s) (omega arith) (left_some h), set_read s at i, answered_next q c (set_there s at) t)
-      (prepend_twice done (set_bytes q c (set_there s at)) (answered q (after_set q c (set_there s at)) t))))
+  pub turn_cut : sized_set r ≡ short → prepend done (answered q c (sets_within k r)) ≡ short
+  turn_cut e = rw (within_more k r (omega arith) some, e)
 
-  pub turn_cut : at < length s → length s ≤ at + k → length s < at + 4 + size_at s at → prepend done (answered q c (sets_within k (drop at s))) ≡ short
-  turn_cut h l i = rw (within_more k (drop at s) (omega arith) (left_some h), set_cut s at (omega arith) i)
+pub turn_end : (q : Question) (c : SimpleConsensusCaller) (r : List ℕ) (k : ℕ) (done : List ℕ) → length r ≡ 0 → prepend done (answered q c (sets_within k r)) ≡ taken (done ++ []) []
+unfolding sets_bytes
+turn_end q c r k done h = rw (within_none k r h)
 
-  pub turn_end : length s ≤ at → prepend done (answered q c (sets_within k (drop at s))) ≡ taken (done ++ []) []
-  unfolding sets_bytes
-  turn_end h = rw (within_none k (drop at s) (ap length (drop_of_length-le s h)))
+-- ---- what the walk says of the sets
+
+module _ (q : Question) (c : SimpleConsensusCaller) (done : List ℕ) where
+  pub cut_off : (t : Taken (List (List ℕ))) → answered q c t ≡ short → t ≡ short
+  cut_off short e = refl
+  cut_off (taken l r) e = absurd cc
+
+  pub all_answered : (t : Taken (List (List ℕ))) → answered q c t ≡ taken (done ++ []) [] → (t ≡ short → ⊥) × (answers_to q c t ≡ done)
+  all_answered short e = absurd cc
+  all_answered (taken l r) e =
+      let same : sets_bytes q c l ≡ done ++ [] = cc in
+      (λ k. cc, same ∙ append-nil done)
+
+-- a second walk over the same sets is not cut off either
+pub walked_again : {P Q : Type 0} (r : Option (Unit {0})) → (IsNone r → P) × (P → IsNone r) → (P → ⊥) → OnSome r Q → Q
+walked_again None cut whole put = absurd (whole (cut.0 refl))
+walked_again (Some u) cut whole put = put

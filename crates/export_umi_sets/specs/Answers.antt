@@ -1,6 +1,6 @@
 -- What sets in turn are answered by one caller.
-use Rattle.std.specs.Prelude.{ℕ, List, [], ◌∷◌, ◌++◌, eqb}
-use Rattle.std.specs.Prelude.{if◌then◌else◌}
+use Rattle.std.specs.Prelude.{ℕ, List, [], ◌∷◌, ◌++◌}
+use Rattle.std.specs.Option.{option_map_or}
 use Rattle.string_set.specs.Readers.{Taken, taken, short}
 use Rattle.lent_bytes.specs.Bytes.{number_bytes}
 use Rattle.export_reports.specs.Report.{builder_bytes}
@@ -8,8 +8,7 @@ use Rattle.simple_consensus.specs.declared.caller.SimpleConsensusCaller.{SimpleC
 use Rattle.simple_consensus.specs.Consensus.{caller_at}
 use Rattle.simple_consensus.specs.Answers.{caller_after}
 use Rattle.export_umi.specs.declared.asked.Question.{Question}
-use Rattle.export_umi.specs.declared.asked.Question.TheVariants.{CallConsensus, Consensus, ConsensusDuplex}
-use Rattle.export_umi.specs.Asked.{asked_found, code_by, asked_text}
+use Rattle.export_umi.specs.Asked.{question_of, asked_found, code_by, asked_text}
 use Rattle.export_umi.specs.Sent.{room_for_string}
 use Rattle.export_umi_sets.specs.Reading.{sets_in}
 
@@ -33,8 +32,4 @@ answers_to q c (taken l r) = sets_bytes q c l
 
 -- by a new caller of two rates and a quality: 0 call_consensus, 1 consensus, 3 consensus_duplex; nothing for another number
 unfoldable pub umi_sets_bytes : ℕ → ℕ → ℕ → ℕ → List ℕ → List ℕ
-umi_sets_bytes pre post quality which sets =
-    if eqb which 0 then answers_to CallConsensus (caller_at pre post quality) (sets_in sets)
-    else if eqb which 1 then answers_to Consensus (caller_at pre post quality) (sets_in sets)
-    else if eqb which 3 then answers_to ConsensusDuplex (caller_at pre post quality) (sets_in sets)
-    else []
+umi_sets_bytes pre post quality which sets = option_map_or (λ q. answers_to q (caller_at pre post quality) (sets_in sets)) (question_of which) []

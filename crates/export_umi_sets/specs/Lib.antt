@@ -1,4 +1,3 @@
 pub mod Reading
 pub mod Answers
-pub mod Places
 pub mod Codes

@@ -2,7 +2,6 @@
 // keeps from one set to the next.
 #![tactic(auto)]
 
-mod places;
 mod sets;
 
 pub use sets::umi_sets;

@@ -2,8 +2,8 @@
 // they copy tables at each call, they do so because the functions that they run take them by value.
 #![tactic(auto)]
 
-mod calls;
 mod items;
+mod ways;
 
-pub use calls::{call_by, try_unanimous_fast_path_by};
-pub use items::{Way, pass_by};
+pub use items::{pass, step};
+pub use ways::{ByValue, LentBuilder, LentTables, Way};

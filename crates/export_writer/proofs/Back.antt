@@ -1,4 +1,5 @@
 -- A writer's number leads back to it, and a number's writer back to the number. Assumes nothing.
+use Rattle.std.specs.Prelude.{Err, Ok}
 use mathlib.Core.Path.{◌≡◌, refl, sym, ◌∙◌, ap}
 use mathlib.Core.Bool.{◌||◌}
 use Prim.Native.Nat.{ℕ, ◌+◌, ◌-◌, ◌*◌, ◌/◌, ◌%◌, ◌≤◌, ◌<◌}
@@ -7,10 +8,9 @@ use borrow.Author.Tests.{le-ltb, ltb-false, eqb-true, eqb-false, leb-true}
 use lib.Dec.{eqb, ltb}
 use Rattle.words.proofs.Cases.{test, choice, neither}
 use Rattle.refusals.specs.declared.Refusal.TheVariants.{OutOfTurn}
-use Rattle.refusals.specs.Result.{refused, accepted}
 use Rattle.tie_rules.specs.declared.tie_rule.TieRule.{TieRule}
 use Rattle.string_set.specs.Readers.{longest_file}
-use Rattle.column_file.specs.Encoding.{rule_number}
+use Rattle.tie_rules.specs.Ties.{rule_number}
 use Rattle.column_file_laws.proofs.Both.{rule_back, number_back}
 use Rattle.column_writer.specs.declared.stages.Stage.{Stage}
 use Rattle.column_writer.specs.declared.stages.Stage.TheVariants.{AwaitsSettings, AwaitsColumns, AwaitsFinish, Finished}
@@ -100,7 +100,7 @@ module _ (w : Writer) (h : Small w) where
   pub no_refusal : first_writer ≤ writer_number w
   no_refusal = omega (arith, number_is)
 
-  pub read_back : writer_of (writer_number w) ≡ accepted w
+  pub read_back : writer_of (writer_number w) ≡ Ok w
   unfolding writer_of
   read_back =
       let n = first_writer + stage_code w.stage + stage_codes * w.written in
@@ -109,11 +109,11 @@ module _ (w : Writer) (h : Small w) where
       let bytes : (n - first_writer) / stage_codes ≡ w.written = omega arith in
       rw (sym number_is, le-ltb n first_writer (omega arith), code, bytes, le-ltb longest_file w.written h.0, stage_back w.stage h.1)
 
-pub only : (n : ℕ) (w : Writer) → writer_of n ≡ accepted w → writer_number w ≡ n
+pub only : (n : ℕ) (w : Writer) → writer_of n ≡ Ok w → writer_number w ≡ n
 unfolding writer_of
 only n w =
     let v : Writer = record { stage = stage_of ((n - first_writer) % stage_codes); written = (n - first_writer) / stage_codes } in
-    choice (λ q. q ≡ accepted w → writer_number w ≡ n) (ltb n first_writer || ltb longest_file ((n - first_writer) / stage_codes)) (refused OutOfTurn) (accepted v)
+    choice (λ q. q ≡ Ok w → writer_number w ≡ n) (ltb n first_writer || ltb longest_file ((n - first_writer) / stage_codes)) (Err OutOfTurn) (Ok v)
     (λ t e. absurd (let z : ◌≡◌ {A = ℕ} 0 1 = cc in omega arith))
     (λ t e.
     let f = neither (ltb n first_writer) (ltb longest_file ((n - first_writer) / stage_codes)) t in

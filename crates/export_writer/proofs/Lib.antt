@@ -1,4 +1,3 @@
 pub mod Coded
-pub mod Replied
 pub mod Back
 pub mod NumberLaws

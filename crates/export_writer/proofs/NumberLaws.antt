@@ -1,19 +1,21 @@
 -- Every list of steps leads to a writer that has a number, and steps by numbers are the steps. Assumes nothing.
+use Rattle.std.specs.Prelude.{Err, Ok}
+use Rattle.std.specs.List.{list_all}
 use mathlib.Core.Path.{◌≡◌, refl, ◌∙◌, ap, subst}
 use mathlib.Core.Bool.{true}
 use mathlib.Core.List.{List, [], ◌∷◌}
-use Prim.Native.Nat.{ℕ, ◌-◌, ◌/◌, ◌%◌}
+use Prim.Native.Nat.{ℕ, ◌/◌, ◌%◌}
 use native.Mathlib.Omega.{arith}
 use borrow.Author.Tests.{lt-ltb, le-ltb, ltb-true}
 use Rattle.words.proofs.Cases.{both}
-use Rattle.words.specs.Lists.{every}
 use Rattle.refusals.specs.Refusals.{number_of}
-use Rattle.refusals.specs.Result.{Result, refused, accepted}
+use Rattle.refusals.specs.Result.{Result}
 use Rattle.refusals.proofs.Numbers.{number_small}
 use Rattle.string_set.specs.StringSet.{read_set}
 use Rattle.column_file.specs.declared.settings.Settings.{Settings}
 use Rattle.column_file.specs.Reading.{read_settings, read_column}
-use Rattle.column_file.specs.Encoding.{rule_number, settings_bytes, announced_bytes}
+use Rattle.tie_rules.specs.Ties.{rule_number}
+use Rattle.column_file.specs.Encoding.{settings_bytes, announced_bytes}
 use Rattle.column_file_laws.specs.Encoding.{is_byte}
 use Rattle.column_file_laws.proofs.Both.{Accepting, further}
 use Rattle.column_file_laws.proofs.Parts.{parts_both_ways}
@@ -37,7 +39,7 @@ use Rattle.export_writer.proofs.Back.{no_refusal, read_back, only}
 -- ---- every writer that is reached has a number
 
 -- two bytes hold a number below 65,536
-small_announced : (g : Settings) (n : ℕ) → every is_byte (announced_bytes g n) ≡ true → SmallStage (AwaitsColumns g n)
+small_announced : (g : Settings) (n : ℕ) → list_all is_byte (announced_bytes g n) ≡ true → SmallStage (AwaitsColumns g n)
 unfolding settings_bytes
 small_announced g n h =
     let a = both (is_byte g.error_rate_pre_umi.0) _ h in
@@ -54,7 +56,7 @@ less_small (AwaitsColumns g left) s = (s.0, s.1, omega (arith, s.2))
 less_small AwaitsFinish s = tt
 less_small Finished s = tt
 
-small_next : (stage : Stage) (kind : PartKind) (part : List ℕ) → every is_byte part ≡ true → SmallStage stage → Accepting SmallStage (next_stage stage kind part)
+small_next : (stage : Stage) (kind : PartKind) (part : List ℕ) → list_all is_byte part ≡ true → SmallStage stage → Accepting SmallStage (next_stage stage kind part)
 unfolding after_settings after_column after_strings
 small_next stage settings part h s =
     further (λ a. announced_bytes a.0 a.1 ≡ part) SmallStage (read_settings part) _
@@ -63,7 +65,7 @@ small_next stage settings part h s =
 small_next stage column part h s = further (λ c. Unit {0}) SmallStage (read_column part) _ (read_part (λ c. Unit {0}) (read_column part) (λ c e. tt)) (λ c u. less_small stage s)
 small_next stage strings part h s = further (λ l. Unit {0}) SmallStage (read_set part) _ (read_part (λ l. Unit {0}) (read_set part) (λ l e. tt)) (λ l u. tt)
 
-small_said : (e : Step) (d : Draft) → every is_byte (part_of e) ≡ true → Small d.writer → Accepting Small (said_of e d)
+small_said : (e : Step) (d : Draft) → list_all is_byte (part_of e) ≡ true → Small d.writer → Accepting Small (said_of e d)
 small_said (put kind part) d h s =
     read_part Small (said_of (put kind part) d)
     (λ v q.
@@ -74,14 +76,14 @@ small_said finish d h s =
     (λ v q. rw (subst (Accepting _) q (finish_known d.writer)).1 (s.0, tt))
 
 small_after : (w : Writer) (q : Result Writer) → Small w → Accepting Small q → Small (writer_after w q)
-small_after w (refused r) s a = s
-small_after w (accepted v) s a = a
+small_after w (Err r) s a = s
+small_after w (Ok v) s a = a
 
 -- ---- a step by a number
 
 number_after_lem : (w : Writer) (q : Result Writer) → Accepting Small q → number_after (writer_number w) (reply_of q) ≡ writer_number (writer_after w q)
-number_after_lem w (refused r) a = let small = number_small r in rw (lt-ltb (number_of r) first_writer (omega arith))
-number_after_lem w (accepted v) a = rw (le-ltb (writer_number v) first_writer (no_refusal v a))
+number_after_lem w (Err r) a = let small = number_small r in rw (lt-ltb (number_of r) first_writer (omega arith))
+number_after_lem w (Ok v) a = rw (le-ltb (writer_number v) first_writer (no_refusal v a))
 
 called_put : (kind : PartKind) (part : List ℕ) (d : Draft) → Small d.writer → Accepting Small (put_in d.writer kind part d.file)
     → held_after (put kind part) (held_of d) ≡ held_of (after_step (put kind part) d)
@@ -103,8 +105,8 @@ called_one finish d s a = called_finish d s a
 -- ---- a list of them
 
 module _ (e : Step) (es : List Step) (h : are_bytes (e ∷ es) ≡ true) (d : Draft) (s : Small d.writer) where
-  abbrev are : (every is_byte (part_of e) ≡ true) × (are_bytes es ≡ true)
-  are = both (every is_byte (part_of e)) (are_bytes es) h
+  abbrev are : (list_all is_byte (part_of e) ≡ true) × (are_bytes es ≡ true)
+  are = both (list_all is_byte (part_of e)) (are_bytes es) h
 
   said_small : Accepting Small (said_of e d)
   said_small = small_said e d are.0 s

@@ -1,7 +1,6 @@
 -- What is numbered is read back, and steps by numbers are the steps.
-use Rattle.std.specs.Prelude.{◌≡◌, true, List, [], ◌∷◌, ℕ, ◌≤◌, ◌<◌, ltb}
+use Rattle.std.specs.Prelude.{◌≡◌, true, List, [], ◌∷◌, ℕ, ◌≤◌, ◌<◌, ltb, Ok}
 use Rattle.std.specs.Prelude.{if◌then◌else◌}
-use Rattle.refusals.specs.Result.{accepted}
 use Rattle.string_set.specs.Readers.{longest_file}
 use Rattle.column_writer.specs.declared.stages.Stage.{Stage}
 use Rattle.column_writer.specs.declared.stages.Stage.TheVariants.{AwaitsSettings, AwaitsColumns, AwaitsFinish, Finished}
@@ -54,9 +53,9 @@ pub record NumberLaws : Type 0 where
   -- no writer's number is that of a refusal
   pub no_refusal : (w : Writer) → Small w → first_writer ≤ writer_number w
   -- a writer's number is read back
-  pub read_back : (w : Writer) → Small w → writer_of (writer_number w) ≡ accepted w
+  pub read_back : (w : Writer) → Small w → writer_of (writer_number w) ≡ Ok w
   -- and it is no other number's writer
-  pub only : (n : ℕ) (w : Writer) → writer_of n ≡ accepted w → writer_number w ≡ n
+  pub only : (n : ℕ) (w : Writer) → writer_of n ≡ Ok w → writer_number w ≡ n
   -- every list of steps leads to such a writer
   pub reached : (es : List Step) → are_bytes es ≡ true → (out : List ℕ) → Small (draft_after es out).writer
   -- steps by numbers, from the new writer's on, lead to the number of the writer and to the buffer that the steps lead to

@@ -1,17 +1,15 @@
 -- A writer as one number that nobody takes apart, 256 or more, and the writer of a number. `NumberLaws` (Laws): each leads back to the other.
-use Rattle.std.specs.Prelude.{ℕ, ◌+◌, ◌-◌, ◌*◌, ◌/◌, ◌%◌, Bool, ◌&&◌, ◌||◌, eqb, leb, ltb}
+use Rattle.std.specs.Prelude.{ℕ, ◌+◌, ◌-◌, ◌*◌, ◌/◌, ◌%◌, Bool, ◌&&◌, ◌||◌, eqb, leb, ltb, Err, Ok}
 use Rattle.std.specs.Prelude.{if◌then◌else◌}
 use Rattle.refusals.specs.declared.Refusal.TheVariants.{OutOfTurn}
 use Rattle.refusals.specs.Refusals.{number_of}
-use Rattle.refusals.specs.Result.{Result, refused, accepted}
+use Rattle.refusals.specs.Result.{Result}
 use Rattle.string_set.specs.Readers.{longest_file}
 use Rattle.column_file.specs.Reading.{settings_at}
-use Rattle.column_file.specs.Encoding.{rule_number}
+use Rattle.tie_rules.specs.Ties.{rule_number}
 use Rattle.column_writer.specs.declared.stages.Stage.{Stage}
 use Rattle.column_writer.specs.declared.stages.Stage.TheVariants.{AwaitsSettings, AwaitsColumns, AwaitsFinish, Finished}
 use Rattle.column_writer.specs.declared.writer.Writer.{Writer}
-use Rattle.export_writer.specs.declared.numbers.Known.{Known}
-use Rattle.export_writer.specs.declared.numbers.Known.TheVariants.{Nobody, Of}
 
 -- the numbers below are those of refusals
 abbrev pub first_writer : ℕ
@@ -61,10 +59,5 @@ writer_number w =
 -- the writer of a number; 13 for a number that is no writer's
 unfoldable pub writer_of : ℕ → Result Writer
 writer_of n =
-    if ltb n first_writer || ltb longest_file ((n - first_writer) / stage_codes) then refused OutOfTurn
-    else accepted (record { stage = stage_of ((n - first_writer) % stage_codes); written = (n - first_writer) / stage_codes })
-
--- as the code has it
-abbrev pub known_of : Result Writer → Known
-known_of (refused r) = Nobody
-known_of (accepted w) = Of w
+    if ltb n first_writer || ltb longest_file ((n - first_writer) / stage_codes) then Err OutOfTurn
+    else Ok (record { stage = stage_of ((n - first_writer) % stage_codes); written = (n - first_writer) / stage_codes })

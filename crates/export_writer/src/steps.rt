@@ -3,32 +3,20 @@
 ghost use Rattle.std.specs.Prelude.{◌≡◌};
 ghost use Rattle.column_writer.specs.Writing.{new_writer};
 ghost use Rattle.export_writer.specs.Numbers.{writer_number};
-ghost use Rattle.export_writer.specs.Replies.{stepped_number, reply_of, write_in, finish_in, file_by, written_by};
+ghost use Rattle.export_writer.specs.Replies.{reply_of, write_in, finish_in, file_by, written_by};
 
-use crate::numbers::{Known, number_of, writer_of};
-use column_writer::{PartKind, StepAnswer, Stepped, Writer};
-use refusals::{Refusal, number};
-use widths::u8_as_u64;
+use crate::numbers::{number_of, writer_of};
+use column_writer::{PartKind, Writer};
+use refusals::Refusal;
 
 // The reply to a step.
-fn reply(stepped: Stepped) -> u64
-    ensures { result ≡ stepped_number stepped }
+fn reply(step: Result<Writer, Refusal>) -> u64
+    ensures { result ≡ reply_of step }
 {
-    let answer = stepped.answer;
-    match answer {
-        StepAnswer::Refused(refusal) => u8_as_u64(number(refusal)),
-        StepAnswer::Accepted => {
-            let writer = stepped.writer;
-            number_of(writer)
-        }
+    match step {
+        Ok(writer) => number_of(writer),
+        Err(refusal) => u64::from(u8::from(refusal)),
     }
-}
-
-// The reply to a number that is no writer's.
-fn nobody() -> u64
-    ensures { result ≡ 13 }
-{
-    u8_as_u64(number(Refusal::OutOfTurn))
 }
 
 // A new writer's number.
@@ -43,31 +31,30 @@ pub fn write(writer: u64, kind: PartKind, part: &[u8], file: &mut [u8]) -> u64
     ensures reply { result ≡ reply_of (write_in writer kind part.now file.old) }
     ensures lent { file.new ≡ file_by writer kind part.now file.old }
 {
-    let known = writer_of(writer);
-    let Known::Of(w) = known else {
-        return nobody();
-    };
-    reply(w.put(kind, part, file))
+    reply(put(writer, kind, part, file))
+}
+
+// The writer afterwards.
+#[tactic(auto, unfolding(crate::specs::Replies::write_in, crate::specs::Replies::file_by))]
+fn put(writer: u64, kind: PartKind, part: &[u8], file: &mut [u8]) -> Result<Writer, Refusal>
+    ensures answer { result ≡ write_in writer kind part.now file.old }
+    ensures lent { file.new ≡ file_by writer kind part.now file.old }
+{
+    writer_of(writer)?.put(kind, part, file)
 }
 
 // The finish.
+#[tactic(auto, unfolding(crate::specs::Replies::finish_in))]
 pub fn finish(writer: u64) -> u64
     ensures { result ≡ reply_of (finish_in writer) }
 {
-    let known = writer_of(writer);
-    let Known::Of(w) = known else {
-        return nobody();
-    };
-    reply(w.finish())
+    reply(writer_of(writer).and_then(|w| w.finish()))
 }
 
 // How many bytes of the file are written, 0 for a number that is no writer's.
+#[tactic(auto, unfolding(crate::specs::Replies::written_by))]
 pub fn written(writer: u64) -> u64
     ensures { result ≡ written_by writer }
 {
-    let known = writer_of(writer);
-    let Known::Of(w) = known else {
-        return 0;
-    };
-    w.written as u64
+    writer_of(writer).map_or(0, |w| w.written as u64)
 }

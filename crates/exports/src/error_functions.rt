@@ -8,6 +8,8 @@ ghost use Rattle.expected_errors.specs.Sums.{error_sum};
 ghost use Rattle.expected_errors.specs.Laws.{most_qualities};
 ghost use Rattle.column_errors.specs.ErrorSums.{error_sums_of};
 
+use crate::reply;
+
 #[unsafe(no_mangle)]
 pub extern "C" fn consensus_error_entry(quality: u8) -> u64
     ensures { result ≡ error_of quality }
@@ -31,5 +33,5 @@ pub extern "C" fn consensus_error_sums(file: &[u8], out: &mut [u8]) -> u64
     ensures reply { result ≡ length_written (error_sums_of file.now) out.old }
     ensures lent { out.new ≡ written (error_sums_of file.now) out.old }
 {
-    column_errors::print(file, out) as u64
+    reply(column_errors::print(file, out))
 }

@@ -7,13 +7,15 @@ ghost use Rattle.column_listing.specs.Answers.{listed_in, listing_buffer};
 ghost use Rattle.column_records.specs.Records.{records_in};
 ghost use Rattle.export_listing.specs.Reply.{listing_reply};
 
+use crate::reply;
+
 // The text that the program prints, and its length; 0 where the buffer is too short.
 #[unsafe(no_mangle)]
 pub extern "C" fn consensus_list(file: &[u8], out: &mut [u8]) -> u64
     ensures reply { result ≡ length_written (listing_of file.now) out.old }
     ensures lent { out.new ≡ written (listing_of file.now) out.old }
 {
-    column_listing::print(file, out) as u64
+    reply(column_listing::print(file, out))
 }
 
 // The listing, or the number of a refusal: below 256 that number, 10 where the buffer is too short, and
@@ -42,5 +44,5 @@ pub extern "C" fn consensus_records(file: &[u8], out: &mut [u8]) -> u64
 pub extern "C" fn consensus_calls(file: &[u8], times: u32) -> u64
     ensures { result ≡ calls_of file.now times }
 {
-    export_timing::calls(file, times)
+    export_timing::calls(file, times).unwrap_or(0)
 }

@@ -1,5 +1,6 @@
 // A script of a builder's calls: the reports that it asks for, or how long it takes; and what a builder
 // has counted.
+// kept: C's interface: bytes, slices and numbers alone, so a rule is a byte and the rates come apart
 ghost use Rattle.std.specs.Prelude.{◌≡◌};
 ghost use Rattle.lent_bytes.specs.Buffer.{length_written, written};
 ghost use Rattle.export_reports.specs.Runs.{history_bytes};
@@ -7,7 +8,8 @@ ghost use Rattle.export_reports.specs.State.{builder_script_bytes};
 ghost use Rattle.export_timing.specs.Times.{times_of};
 ghost use Rattle.export_observations.specs.Observations.{observation_count_bytes};
 
-use export_ways::Way;
+use crate::reply;
+use export_ways::{ByValue, LentBuilder};
 use phred::PhredScore;
 
 // On a new builder of two rates.
@@ -22,7 +24,7 @@ pub extern "C" fn consensus_history(
     ensures reply { result ≡ length_written (history_bytes pre post rule script.now) out.old }
     ensures lent { out.new ≡ written (history_bytes pre post rule script.now) out.old }
 {
-    export_reports::history(PhredScore(pre), PhredScore(post), rule, script, out)
+    reply(export_reports::history(PhredScore(pre), PhredScore(post), rule, script, out))
 }
 
 // The same by the functions that take tables by value.
@@ -37,8 +39,13 @@ pub extern "C" fn consensus_history_by_value(
     ensures reply { result ≡ length_written (history_bytes pre post rule script.now) out.old }
     ensures lent { out.new ≡ written (history_bytes pre post rule script.now) out.old }
 {
-    let way = Way::ByValue;
-    export_reports::history_by(way, PhredScore(pre), PhredScore(post), rule, script, out)
+    reply(export_reports::history_by::<ByValue>(
+        PhredScore(pre),
+        PhredScore(post),
+        rule,
+        script,
+        out,
+    ))
 }
 
 // The same by those that are borrowed the builder by &mut.
@@ -53,8 +60,13 @@ pub extern "C" fn consensus_history_lent(
     ensures reply { result ≡ length_written (history_bytes pre post rule script.now) out.old }
     ensures lent { out.new ≡ written (history_bytes pre post rule script.now) out.old }
 {
-    let way = Way::LentBuilder;
-    export_reports::history_by(way, PhredScore(pre), PhredScore(post), rule, script, out)
+    reply(export_reports::history_by::<LentBuilder>(
+        PhredScore(pre),
+        PhredScore(post),
+        rule,
+        script,
+        out,
+    ))
 }
 
 // On a builder of 80 given bytes.
@@ -70,7 +82,7 @@ pub extern "C" fn consensus_builder(
     ensures reply { result ≡ length_written (builder_script_bytes pre post rule state.now script.now) out.old }
     ensures lent { out.new ≡ written (builder_script_bytes pre post rule state.now script.now) out.old }
 {
-    export_reports::from_state(PhredScore(pre), PhredScore(post), rule, state, script, out)
+    reply(export_reports::from_state(PhredScore(pre), PhredScore(post), rule, state, script, out))
 }
 
 // For timing: a number of runs, each on a new builder.
@@ -84,7 +96,7 @@ pub extern "C" fn consensus_history_times(
 ) -> u64
     ensures { result ≡ times_of pre post rule script.now times }
 {
-    export_timing::times(PhredScore(pre), PhredScore(post), rule, script, times)
+    export_timing::times(PhredScore(pre), PhredScore(post), rule, script, times).unwrap_or(0)
 }
 
 // The counts of a builder of 80 given bytes, by the functions that say them.
@@ -93,5 +105,5 @@ pub extern "C" fn consensus_observations(state: &[u8], out: &mut [u8]) -> u64
     ensures reply { result ≡ length_written (observation_count_bytes state.now) out.old }
     ensures lent { out.new ≡ written (observation_count_bytes state.now) out.old }
 {
-    export_observations::observations(state, out)
+    reply(export_observations::observations(state, out))
 }

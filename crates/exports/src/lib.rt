@@ -2,6 +2,8 @@
 // under a name of its own.
 #![tactic(auto)]
 
+ghost use Rattle.std.specs.Prelude.{◌≡◌, unwrap_or};
+
 mod elementary_functions;
 mod error_functions;
 mod file_functions;
@@ -10,3 +12,10 @@ mod phred_functions;
 mod table_functions;
 mod umi_functions;
 mod writer_functions;
+
+// How many bytes were written as C gets it: 0 where there are none.
+fn reply(written: Option<usize>) -> u64
+    ensures { result ≡ unwrap_or written 0 }
+{
+    written.map_or(0, |n| n as u64)
+}

@@ -3,6 +3,7 @@ ghost use Rattle.std.specs.Prelude.{◌≡◌};
 ghost use Rattle.lent_bytes.specs.Buffer.{length_written, written};
 ghost use Rattle.export_tables.specs.Tables.{table_bytes};
 
+use crate::reply;
 use phred::PhredScore;
 
 // Into a buffer of 3,016 bytes or more.
@@ -11,5 +12,5 @@ pub extern "C" fn consensus_tables(pre: u8, post: u8, out: &mut [u8]) -> u64
     ensures reply { result ≡ length_written (table_bytes pre post) out.old }
     ensures lent { out.new ≡ written (table_bytes pre post) out.old }
 {
-    export_tables::tables(PhredScore(pre), PhredScore(post), out)
+    reply(export_tables::tables(PhredScore(pre), PhredScore(post), out))
 }

@@ -1,12 +1,15 @@
 // The DNA test, and the consensus of UMI strings by the number of the function.
+// kept: C's interface: bytes, slices and numbers alone, so a function is a number and the rates come apart
 ghost use Rattle.std.specs.Prelude.{◌≡◌};
 ghost use Rattle.lent_bytes.specs.Buffer.{length_written, written};
 ghost use Rattle.umi_column.specs.Dna.{is_dna_base};
 ghost use Rattle.simple_consensus.specs.Consensus.{caller_at};
-ghost use Rattle.export_umi.specs.Codes.{bit, umi_reply, umi_buffer};
+ghost use Rattle.export_umi.specs.Codes.{bit};
+ghost use Rattle.export_umi.specs.Numbered.{umi_reply, umi_buffer};
 ghost use Rattle.export_umi.specs.Sent.{caller_reply, caller_buffer};
 ghost use Rattle.export_umi_sets.specs.Answers.{umi_sets_bytes};
 
+use crate::reply;
 use phred::PhredScore;
 use simple_consensus::SimpleConsensusCaller;
 
@@ -15,10 +18,7 @@ use simple_consensus::SimpleConsensusCaller;
 pub extern "C" fn consensus_is_dna_base(b: u8) -> u8
     ensures { result ≡ bit (is_dna_base b) }
 {
-    if SimpleConsensusCaller::is_dna_base(b) {
-        return 1;
-    }
-    0
+    u8::from(SimpleConsensusCaller::is_dna_base(b))
 }
 
 // At the defaults.
@@ -27,7 +27,7 @@ pub extern "C" fn consensus_umi(which: u8, set: &[u8], out: &mut [u8]) -> u64
     ensures reply { result ≡ umi_reply which set.now out.old }
     ensures lent { out.new ≡ umi_buffer which set.now out.old }
 {
-    export_umi::umi(which, set, out)
+    export_umi::umi(which, set, out).unwrap_or(0)
 }
 
 // Of a new caller, with its builder afterwards.
@@ -51,6 +51,7 @@ pub extern "C" fn consensus_umi_caller(
         set,
         out,
     )
+    .unwrap_or(0)
 }
 
 // Of a new caller, set by set.
@@ -66,12 +67,12 @@ pub extern "C" fn consensus_umi_sets(
     ensures reply { result ≡ length_written (umi_sets_bytes pre post quality which sets.now) out.old }
     ensures lent { out.new ≡ written (umi_sets_bytes pre post quality which sets.now) out.old }
 {
-    export_umi_sets::umi_sets(
+    reply(export_umi_sets::umi_sets(
         PhredScore(pre),
         PhredScore(post),
         PhredScore(quality),
         which,
         sets,
         out,
-    )
+    ))
 }

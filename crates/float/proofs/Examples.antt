@@ -7,7 +7,7 @@ use Rattle.words.specs.Claims.{all}
 use Rattle.float.specs.Ops.{◌⊘◌, bits, whole, plus_zero, one, half, two, three, epsilon, plus_infinity}
 use Rattle.float.specs.Methods.{abs_of, max_of, between_of, floor_of}
 
--- of the constants by the numbers that they are, and of abs, max, between, floor_to_u64 and is_finite, in turn
+-- of the constants by the numbers that they are, and of abs, max, between, floor_to_u64 and finite, in turn
 abbrev examples : List Bool
 examples =
     same one (whole 1)

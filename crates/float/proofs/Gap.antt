@@ -5,7 +5,7 @@ use lib.Ieee.{Float, nan, inf, fin, binary64, up, down, round, sum, sub, below, 
 use lib.Ieee.Fits.{down_pos}
 use Rattle.words.proofs.Cases.{test, clash}
 use Rattle.float.specs.Ops.{◌⊖◌, epsilon}
-use Rattle.float.proofs.Finite.{round-zero}
+use Rattle.float.proofs.Zero.{round-zero}
 use Rattle.float.proofs.Order.{round_has}
 
 -- 2^-52 by its parts

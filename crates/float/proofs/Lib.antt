@@ -1,6 +1,6 @@
 pub mod Order
 pub mod Patterns
-pub mod Finite
+pub mod Zero
 pub mod Floor
 pub mod Sums
 pub mod Turned

@@ -13,7 +13,7 @@ use lib.Ieee.Order.{round_mono}
 use lib.Ieee.Scale.{round_same, finite}
 use Rattle.float.specs.Ops.{◌⊕◌, ◌⊖◌, plus_zero, plus_infinity}
 use Rattle.words.proofs.Cases.{both}
-use Rattle.float.proofs.Finite.{round-zero}
+use Rattle.float.proofs.Zero.{round-zero}
 use Rattle.float.proofs.Order.{none_below, le_not_lt, lt_neg, round_has}
 
 -- ---- a value that the format holds is rounded to itself

@@ -5,7 +5,7 @@ use lib.Ieee.Fits.{down_pos}
 use Rattle.float.specs.Ops.{◌⊖◌}
 use Rattle.float.specs.Methods.{abs_of}
 use Rattle.words.proofs.Cases.{test}
-use Rattle.float.proofs.Finite.{round-zero}
+use Rattle.float.proofs.Zero.{round-zero}
 use Rattle.float.proofs.Order.{round_has}
 use Rattle.float.proofs.Sums.{round_neg}
 

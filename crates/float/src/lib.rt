@@ -1,29 +1,10 @@
-// What a caller of f64 needs and the language lacks.
+// What a caller of f64 needs beside the library's own methods.
 #![tactic(auto)]
 
-ghost use Rattle.std.specs.Prelude.{◌≡◌, is_nan, to_bits};
+ghost use Rattle.std.specs.Prelude.{◌≡◌, to_bits};
 ghost use Rattle.std.specs.Float.{binary64};
-ghost use Rattle.std.specs.Float.Ieee.Scale.{finite};
 ghost use Rattle.float.specs.Ops.{bits};
 ghost use Rattle.float.specs.Methods.{abs_of, max_of, between_of, floor_of};
-
-// 2^-52: 1 is so far below the next f64.
-pub const EPSILON: f64 = f64::EPSILON;
-
-// Whether x is a NaN.
-pub fn is_nan(x: f64) -> bool
-    ensures { result ≡ is_nan x }
-{
-    x.is_nan()
-}
-
-// Whether x is neither a NaN nor an infinity.
-#[tactic(auto, using(crate::proofs::Finite::finite_is))]
-pub fn is_finite(x: f64) -> bool
-    ensures { result ≡ finite x }
-{
-    x.is_finite()
-}
 
 // x without its sign, the highest bit of its pattern; a NaN has no pattern to read.
 pub fn abs(x: f64) -> f64

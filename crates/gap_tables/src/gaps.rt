@@ -7,9 +7,9 @@ ghost use Rattle.gap_tables.specs.Gaps.{unanimous_quality_from_gap, threshold_at
 
 use crate::thresholds::threshold_with;
 use phred::{LogProbability, PhredScore};
-use widths::wide;
 
 // The gap formula.
+#[tactic(auto, unfolding(crate::specs::Gaps::unanimous_quality_from_gap))]
 pub fn unanimous_quality_from_gap(gap: f64, ln_error_pre_umi: LogProbability) -> PhredScore
     ensures { result.0 ≡ unanimous_quality_from_gap ln_error_pre_umi.0 gap }
 {
@@ -27,23 +27,11 @@ pub fn build_unanimous_gap_thresholds(error_rate_pre_umi: PhredScore) -> [f64; 9
     let pre = phred::phred_to_ln_error_prob(error_rate_pre_umi);
     let least = unanimous_quality_from_gap(0.0, pre).0;
     let most = unanimous_quality_from_gap(256.0, pre).0;
-    threshold_table(pre, least, most)
-}
-
-fn threshold_table(pre: LogProbability, least: u8, most: u8) -> [f64; 94]
-    ensures { result ≡ levels (threshold_with (unanimous_quality_from_gap pre.0) least most) }
-{
-    let mut table = [0.0; 94];
-    let mut level: u8 = 0;
-    while level < 94 {
-        let at = level as usize;
-        table[at] = threshold_with(pre, least, most, level);
-        level += 1;
-    }
-    table
+    std::array::from_fn(|level| threshold_with(pre, least, most, level as u8))
 }
 
 // The error of a unanimous position by its gap.
+#[tactic(auto, unfolding(crate::specs::Gaps::consensus_error))]
 pub fn consensus_error(gap: f64) -> f64
     ensures { result ≡ consensus_error gap }
 {
@@ -51,7 +39,7 @@ pub fn consensus_error(gap: f64) -> f64
     e / (1.0 + e)
 }
 
-#[derive(Clone, Copy)]
+#[derive(Clone, Copy, Debug, PartialEq)]
 pub struct UnanimousGapTables {
     // The least gap at which each level is reached.
     pub thresholds: [f64; 94],
@@ -65,8 +53,9 @@ pub fn build_unanimous_gap_tables(error_rate_pre_umi: PhredScore) -> UnanimousGa
     ensures { result ≡ gap_tables error_rate_pre_umi.0 }
 {
     let thresholds = build_unanimous_gap_thresholds(error_rate_pre_umi);
-    let cap = wide(phred::ln_prob_to_phred(phred::phred_to_ln_error_prob(error_rate_pre_umi)).0);
-    let cerr_min = cerr_table(&thresholds, cap);
+    let pre = phred::phred_to_ln_error_prob(error_rate_pre_umi);
+    let cap = usize::from(phred::ln_prob_to_phred(pre).0);
+    let cerr_min = std::array::from_fn(|q| cerr_at(&thresholds, cap, q));
     UnanimousGapTables {
         thresholds,
         cerr_min,
@@ -74,25 +63,14 @@ pub fn build_unanimous_gap_tables(error_rate_pre_umi: PhredScore) -> UnanimousGa
     }
 }
 
-fn cerr_table(thresholds: &[f64; 94], cap: usize) -> [f64; 94]
-    requires { cap ≤ 93 }
-    ensures { result ≡ levels (cerr_from thresholds.now cap) }
-{
-    let mut table = [0.0; 94];
-    let mut q = 0;
-    while q < 94 {
-        table[q] = cerr_at(thresholds, cap, q);
-        q += 1;
-    }
-    table
-}
-
+#[tactic(auto, unfolding(crate::specs::Gaps::cerr_from))]
 fn cerr_at(thresholds: &[f64; 94], cap: usize, q: usize) -> f64
     requires { cap ≤ 93 }
     ensures { result ≡ cerr_from thresholds.now cap q }
 {
     if q < cap {
-        return consensus_error(thresholds[q + 1]);
+        consensus_error(thresholds[q + 1])
+    } else {
+        0.0
     }
-    0.0
 }

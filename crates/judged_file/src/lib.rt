@@ -1,62 +1,50 @@
 // A column file judged whole, its strings included: what every output of a file begins with.
 #![tactic(auto)]
 
-ghost use Rattle.std.specs.Prelude.{◌≡◌, ◌≤◌};
+ghost use Rattle.std.specs.Prelude.{◌≡◌, ◌≤◌, IfOk, take};
 ghost use Rattle.refusals.specs.Refusals.{number_in};
-ghost use Rattle.column_file.specs.Reading.{read_file};
-ghost use Rattle.column_file.specs.Places.{reading_of};
-ghost use Rattle.judged_file.specs.Judged.{judge_file, judgement_of, judgement_number, judgement_length, consensus_after};
+ghost use Rattle.refusals.specs.Result.{map_ok};
+ghost use Rattle.judged_file.specs.Judged.{judge_file, judged_as};
 
-use column_file::{Places, Reading};
+use column_file::Places;
 use refusals::Refusal;
-use simple_umi::{FlaggedAnswer, SimpleUmiConsensusCaller};
+use simple_umi::SimpleUmiConsensusCaller;
 
-// Refused; or where the file's parts are, how long the consensus of its strings is, and whether a string
-// differs from it.
-#[derive(Clone, Copy)]
-pub enum Judgement {
-    Refused(Refusal),
-    Accepted(Places, usize, bool),
-}
-
-#[derive(Clone, Copy)]
+// Where the parts of an accepted file are, the consensus of its strings, and whether a string differs
+// from it.
+#[derive(Clone, Copy, Debug, PartialEq, Eq)]
+// kept: rule of the project: no heap, so the text lies in a fixed array beside its length
 pub struct JudgedFile {
-    pub judgement: Judgement,
-    // The consensus, and 0 behind it; of a refused file all are 0.
+    pub places: Places,
+    // The consensus, which has no more than 255 bytes, and 0 behind it; and how long it is.
     pub text: [u8; 255],
+    pub length: usize,
+    pub had_errors: bool,
 }
 
-// Of a file that is read: 7 to 9 by its strings. No consensus has more than 255 bytes.
-fn judge_strings(file: &[u8], places: Places) -> JudgedFile
-    requires { reading_of (read_file file.now) ≡ Reading.Accepted places }
-    ensures judgement { result.judgement ≡ judgement_of (judge_file file.now) }
-    ensures text { result.text ≡ consensus_after (judge_file file.now) }
-    ensures short { judgement_length result.judgement ≤ 255 }
-{
-    let strings = places.strings;
-    let mut text = [0u8; 255];
-    let consensus = SimpleUmiConsensusCaller::default().consensus(&file[strings..], &mut text);
-    let answer = consensus.answer;
-    let judgement = match answer {
-        FlaggedAnswer::Refused(refusal) => Judgement::Refused(refusal),
-        FlaggedAnswer::Given(n, had_errors) => Judgement::Accepted(places, n, had_errors),
-    };
-    JudgedFile { judgement, text }
-}
-
-// 1 to 4 by the file, then 7 to 9 by its strings.
-pub fn judge(file: &[u8]) -> JudgedFile
-    ensures judgement { result.judgement ≡ judgement_of (judge_file file.now) }
-    ensures text { result.text ≡ consensus_after (judge_file file.now) }
-    ensures short { judgement_length result.judgement ≤ 255 }
-    ensures number { judgement_number result.judgement ≡ number_in (judge_file file.now) }
-{
-    let reading = column_file::read(file);
-    match reading {
-        Reading::Refused(refusal) => JudgedFile {
-            judgement: Judgement::Refused(refusal),
-            text: [0; 255],
-        },
-        Reading::Accepted(places) => judge_strings(file, places),
+impl JudgedFile {
+    // The consensus.
+    pub fn text(&self) -> &[u8]
+        ensures { result.now ≡ take self.now.length self.now.text }
+    {
+        self.text.get(..self.length).unwrap_or(&self.text)
     }
+}
+
+// Refused by 1 to 4 for the file, then by 7 to 9 for its strings.
+pub fn judge(file: &[u8]) -> Result<JudgedFile, Refusal>
+    ensures judged { result ≡ map_ok judged_as (judge_file file.now) }
+    ensures short { IfOk result (λ judged. judged.length ≤ 255) }
+    ensures number { number_in result ≡ number_in (judge_file file.now) }
+{
+    let places = column_file::read(file)?;
+    let mut text = [0u8; 255];
+    let strings = &file[places.strings..];
+    let consensus = SimpleUmiConsensusCaller::default().consensus(strings, &mut text)?;
+    Ok(JudgedFile {
+        places,
+        text,
+        length: consensus.length,
+        had_errors: consensus.had_errors,
+    })
 }

@@ -8,12 +8,11 @@ use lib.Dec.{ltb}
 use lib.Ieee.{Float}
 use lib.Ieee.Scale.{finite}
 use borrow.Author.Tests.{ltb-true, lt-ltb, le-ltb}
-use Rattle.std.specs.Prelude.{if◌then◌else◌}
+use Rattle.std.specs.Prelude.{None, if◌then◌else◌}
 use Rattle.tie_rules.specs.declared.tie_rule.TieRule.{TieRule}
 use Rattle.tie_rules.specs.Lanes.{lane, no_lane}
 use Rattle.tie_rules.specs.Ties.{untied, none_above, unique_max_index_with}
 use Rattle.tie_rules.proofs.Stands.{named_stands}
-use Rattle.lane_calls.specs.declared.call.Reply.TheVariants.{Deferred}
 use Rattle.lane_calls.specs.Calls.{called, no_call}
 use Rattle.lane_calls.specs.Full.{full_quality, full_call}
 use Rattle.lane_calls.specs.Lane.{reply_of_lane}
@@ -30,13 +29,13 @@ pub multibase_is : (pre : Float) (xs : List Float) (rule : TieRule) → multibas
     ≡ (let i = unique_max_index_with xs rule in
     let m = lane xs i in
     if ltb i no_lane && finite m then rest_reply pre xs i m
-    else Deferred)
+    else None)
 unfolding multibase_reply
 multibase_is pre xs rule =
     let i = unique_max_index_with xs rule in
     let m = lane xs i in
-    ap (λ (t : Bool). if t then rest_reply pre xs i m else Deferred)
-    (left_out (ltb i no_lane) (finite m) (untied rule xs i m) (none_above xs m) (λ t. named_stands rule xs (ltb-true i no_lane t)))
+    ap (λ (t : Bool). if t then rest_reply pre xs i m else None)
+    (left_out (ltb i no_lane) (finite m) (untied rule xs i m) (none_above xs m) (λ t. named_stands xs rule (ltb-true i no_lane t)))
 
 -- ---- for the rule's lane, once it is found
 
@@ -46,7 +45,7 @@ module _ (pre : Float) (xs : List Float) (rule : TieRule) (i : ℕ) (e : i ≡ u
   unfolding reply_of_lane
   named_reply h = rw (multibase_is pre xs rule, ← e, lt-ltb i no_lane h)
 
-  pub unnamed_reply : no_lane ≤ i → multibase_reply pre xs rule ≡ Deferred
+  pub unnamed_reply : no_lane ≤ i → multibase_reply pre xs rule ≡ None
   unnamed_reply h = rw (multibase_is pre xs rule, ← e, le-ltb i no_lane h)
 
   -- and so is the long calculation

@@ -1,12 +1,10 @@
--- What is called, and how a shortcut answers.
-use Rattle.std.specs.Prelude.{ℕ, Float}
+-- What is called. A shortcut replies with a call, or with none where it is not for it to decide.
+use Rattle.std.specs.Prelude.{ℕ, Option, Some, Float}
 use Rattle.float.specs.Ops.{◌⊕◌, ◌⊗◌, ◌⊘◌, bits}
 use Rattle.float.specs.Methods.{abs_of}
 use Rattle.phred.specs.Phred.{min_phred}
 use Rattle.tie_rules.specs.Lanes.{no_lane, base_of}
 use Rattle.lane_calls.specs.declared.call.Call.{Call}
-use Rattle.lane_calls.specs.declared.call.Reply.{Reply}
-use Rattle.lane_calls.specs.declared.call.Reply.TheVariants.{Replied, Deferred}
 
 -- the base of lane i with a quality
 abbrev pub called : ℕ → ℕ → Call
@@ -17,13 +15,8 @@ abbrev pub no_call : Call
 no_call = called no_lane min_phred
 
 -- a shortcut replies where the step before it would read outside its tables
-abbrev pub outside : Reply
-outside = Replied no_call
-
--- what a shortcut replies, or else the other call
-abbrev pub replied_or : Reply → Call → Call
-replied_or (Replied short) other = short
-replied_or Deferred other = other
+abbrev pub outside : Option Call
+outside = Some no_call
 
 -- 16
 abbrev pub sixteen : Float

@@ -4,12 +4,10 @@
 
 mod call;
 mod full;
-mod lanes;
 mod margin;
 mod multibase;
+mod position;
 
-pub use call::{Call, Reply, called, no_call};
-pub use full::call_full;
-pub use lanes::call_lanes;
+pub use call::Call;
 pub use margin::unanimous_margin;
-pub use multibase::try_multibase_fast_path;
+pub use position::Position;

@@ -1,23 +1,39 @@
 // What one observation does to the lanes.
 ghost use Rattle.std.specs.Prelude.{◌≡◌, ◌<◌};
 ghost use Rattle.tie_rules.specs.Lanes.{lanes, lane};
-ghost use Rattle.lane_sums.specs.Observation.{moved_by, sum_at, moved_lanes, value_of, count_of};
+ghost use Rattle.lane_sums.specs.Observation.{moved_by, moved_lanes, value_of, count_of};
 
 // A lane's running sum and its compensation.
-#[derive(Clone, Copy)]
+#[derive(Clone, Copy, Debug, PartialEq)]
 pub struct Sum {
     pub lane: f64,
     pub compensation: f64,
 }
 
 // Those of the four lanes.
-#[derive(Clone, Copy)]
+// kept: rule of the project: the builder has two arrays of f64, which go in and out as these
+#[derive(Clone, Copy, Debug, PartialEq)]
 pub struct LaneSums {
     pub likelihoods: [f64; 4],
     pub compensations: [f64; 4],
 }
 
+impl LaneSums {
+    ghost use Rattle.lane_sums.specs.Observation.{sum_at};
+
+    fn at(self, i: usize) -> Sum
+        requires { i < 4 }
+        ensures { result ≡ sum_at self i }
+    {
+        Sum {
+            lane: self.likelihoods[i],
+            compensation: self.compensations[i],
+        }
+    }
+}
+
 // Kahan's step.
+#[tactic(auto, unfolding(crate::specs::Observation::moved_by))]
 fn moved(value: f64, s: Sum) -> Sum
     ensures { result ≡ moved_by value s }
 {
@@ -29,66 +45,28 @@ fn moved(value: f64, s: Sum) -> Sum
     }
 }
 
-fn moved_lane(sums: LaneSums, value: f64, i: usize) -> Sum
-    requires { i < 4 }
-    ensures { result ≡ moved_by value (sum_at sums i) }
-{
-    let likelihoods = sums.likelihoods;
-    let compensations = sums.compensations;
-    let sum = Sum {
-        lane: likelihoods[i],
-        compensation: compensations[i],
-    };
-    moved(value, sum)
-}
-
 // Each lane moved by its value.
 pub fn moved_lanes(sums: LaneSums, values: [f64; 4]) -> LaneSums
     ensures { result ≡ moved_lanes (lane values) sums }
 {
-    let a = moved_lane(sums, values[0], 0);
-    let c = moved_lane(sums, values[1], 1);
-    let g = moved_lane(sums, values[2], 2);
-    let t = moved_lane(sums, values[3], 3);
+    let after: [Sum; 4] = std::array::from_fn(|i| moved(values[i], sums.at(i)));
     LaneSums {
-        likelihoods: [a.lane, c.lane, g.lane, t.lane],
-        compensations: [
-            a.compensation,
-            c.compensation,
-            g.compensation,
-            t.compensation,
-        ],
+        likelihoods: after.map(|s| s.lane),
+        compensations: after.map(|s| s.compensation),
     }
 }
 
-// What lane i is moved by where lane k was observed.
-fn value(correct: f64, error: f64, k: usize, i: usize) -> f64
-    ensures { result ≡ value_of correct error k i }
-{
-    if i == k {
-        return correct;
-    }
-    error
-}
-
-// The same of each lane.
+// What each lane is moved by where lane k was observed.
 pub fn values(correct: f64, error: f64, k: usize) -> [f64; 4]
     ensures { result ≡ lanes (value_of correct error k) }
 {
-    [
-        value(correct, error, k, 0),
-        value(correct, error, k, 1),
-        value(correct, error, k, 2),
-        value(correct, error, k, 3),
-    ]
+    std::array::from_fn(|i| if i == k { correct } else { error })
 }
 
 // The count of lane i after lane k was observed.
+#[tactic(auto, unfolding(crate::specs::Observation::count_of))]
 pub fn count(n: u32, k: usize, i: usize) -> u32
     ensures { result ≡ count_of n k i }
 {
-    if i == k {
-        return std::num::wrapping_add_u32(n, 1);
-    }
-    n
+    if i == k { n.wrapping_add(1) } else { n }
 }

@@ -1,24 +1,20 @@
 -- Bytes set one after another, and what a buffer then holds that they fit into, or don't. Assumes nothing.
-use mathlib.Core.Path.{◌≡◌, ◌∙◌, ap}
-use mathlib.Core.List.{List, [], ◌∷◌, ◌++◌}
+use mathlib.Core.Path.{◌≡◌, refl, sym, ◌∙◌, ap}
+use mathlib.Core.List.{List, [], ◌∷◌, ◌++◌, append_assoc}
 use Prim.Native.Nat.{ℕ, suc, ◌+◌, ◌≤◌, ◌<◌}
 use native.Mathlib.Nat.{add-zero, zero-add}
-use native.Mathlib.Numerals.{add-one}
 use native.Mathlib.Omega.{arith}
 use borrow.Author.Tests.{le-leb, lt-leb}
-use lib.ListN.{length, take, drop, set, drop_of_length-le}
-use lib.Seq.{sets, sets-eq, take-append_seam}
-use Rattle.words.specs.Lists.{byte_at}
-use Rattle.lent_bytes.specs.Buffer.{length_written, written, written_at}
-use Rattle.lent_bytes.proofs.Lists.{bytes_from}
-
--- byte i of the bytes set at place k, and then the others
-pub sets_more : (out bs : List ℕ) (k i : ℕ) → i < length bs → sets (set out k (byte_at bs i)) (k + 1) (drop (i + 1) bs) ≡ sets out k (drop i bs)
-sets_more out bs k i h = rw (add-one k, bytes_from bs i h)
-
--- none is left
-pub sets_none : (out bs : List ℕ) (k i : ℕ) → length bs ≤ i → sets out k (drop i bs) ≡ out
-sets_none out bs k i h = rw (drop_of_length-le bs h)
+use mathlib.Core.Bool.{Bool, true, false}
+use lib.Dec.{leb}
+use Rattle.std.specs.Prelude.{Option, Some, None, if◌then◌else◌}
+use Rattle.std.specs.Bool.{then_some}
+use lib.ListN.{length, take, drop, set, length-append}
+use lib.Seq.{sets, sets-eq, length-sets, take-append_seam}
+use borrow.Rule.Slice.PartMut.{put_mid}
+use Rattle.std.proofs.lemmas.Slice.{put_mid-paste}
+use Rattle.std.proofs.lemmas.List.Edits.{paste_all}
+use Rattle.lent_bytes.specs.Buffer.{length_written, written_length, written, written_at}
 
 -- bytes after bytes
 pub sets_append : (l : List ℕ) (i : ℕ) (a b : List ℕ) → sets (sets l i a) (i + length a) b ≡ sets l i (a ++ b)
@@ -36,6 +32,13 @@ module _ (at : ℕ) (bs out : List ℕ) where
   pub short_written_at : length out < at + length bs → out ≡ written_at at bs out
   unfolding written_at
   short_written_at h = rw (lt-leb (at + length bs) (length out) h)
+
+-- put over the part of a buffer from a place on
+pub put_over : (at k : ℕ) (bs ys out : List ℕ) → ys ≡ bs → k ≡ length bs → at + length bs ≤ length out → put_mid at k out ys ≡ written_at at bs out
+unfolding written_at
+put_over at k bs ys out e l h =
+    rw (le-leb (at + length bs) (length out) h)
+    (put_mid-paste at k out ys bs (length bs) e (sym l) refl ∙ paste_all out at bs (length bs) refl ∙ sym (append_assoc (take at out) bs _))
 
 module _ (bs out : List ℕ) where
   -- at the front
@@ -63,3 +66,26 @@ module _ (bs out : List ℕ) where
   pub written_front : length bs ≤ length out → take (length bs) (written bs out) ≡ bs
   unfolding written
   written_front h = rw (le-leb (length bs) (length out) h) (take-append_seam bs (drop (length bs) out))
+
+-- bytes and then others after them
+pub written_both : (a b out : List ℕ) → length (a ++ b) ≤ length out → written_at (length a) b (written a out) ≡ written (a ++ b) out
+written_both a b out h =
+    let l = length-append a b in
+    let e = fits_written a out (omega arith) in
+    let m : length (written a out) ≡ length out = ap length (sym e) ∙ length-sets out 0 a in
+    sym (fits_written_at (length a) b (written a out) (omega arith))
+    ∙ ap (λ (o : List ℕ). sets o (length a) b) (sym e)
+    ∙ rw (zero-add (length a)) at (sets_append out 0 a b)
+    ∙ fits_written (a ++ b) out h
+
+some_where : (b : Bool) (n : ℕ) → then_some b n ≡ (if b then Some n else None)
+some_where true n = refl
+some_where false n = refl
+
+-- n bytes bs, which are a text, were put at the front of a buffer, or not: how long the text is, if it was put, and what the buffer then holds
+pub sent_length : {t bs : List ℕ} {n : ℕ} {b : Bool} {r : Option ℕ} (out : List ℕ) → bs ≡ t → n ≡ length t → b ≡ leb (length bs) (length out) → r ≡ then_some b n → r ≡ written_length t out
+unfolding written_length
+sent_length {t} {bs} {n} {b} {r} out e k h q = q ∙ rw (h, e, k) (some_where (leb (length t) (length out)) (length t))
+
+pub sent_bytes : {t bs out' : List ℕ} (out : List ℕ) → bs ≡ t → out' ≡ written bs out → out' ≡ written t out
+sent_bytes out e w = w ∙ ap (λ (l : List ℕ). written l out) e

@@ -1,13 +1,14 @@
 -- Numbers as bytes: how many there are, and that they are read back. Assumes nothing.
-use mathlib.Core.Path.{◌≡◌, refl, ap}
+use mathlib.Core.Path.{◌≡◌, refl, sym, ◌∙◌, ap}
 use mathlib.Core.List.{List, [], ◌∷◌}
-use Prim.Native.Nat.{ℕ, zero, suc, ◌+◌, ◌*◌, ◌/◌, ◌^◌, ◌≤◌, ◌<◌}
-use native.Mathlib.Nat.{pow-suc}
+use Prim.Native.Nat.{ℕ, zero, suc, ◌+◌, ◌*◌, ◌/◌, ◌%◌, ◌^◌, ◌<◌}
+use native.Mathlib.Nat.{pow-suc, div-one, div-div-eq-div-mul}
 use native.Mathlib.Numerals.{add-one}
 use native.Mathlib.Omega.{arith}
-use lib.ListN.{length, drop, drop_of_length-le}
+use lib.ListN.{length}
 use lib.Seq.{take-nil, drop-nil}
-use Rattle.words.specs.Lists.{byte_at}
+use Rattle.std.specs.Int.{Width, byte_len, bytes_low_first, to_le_bytes, from_le_bytes, w32}
+use Rattle.words.specs.Lists.{byte_at, listed}
 use Rattle.lent_bytes.specs.Bytes.{joined, number_bytes, four_bytes, number_of_bytes, number_at}
 use Rattle.lent_bytes.proofs.Joined.{joined_length}
 
@@ -42,22 +43,26 @@ number_more (x ∷ s) zero k = rw (add-one k)
 number_more (x ∷ s) (suc at) k = let e : suc at + 1 ≡ suc (at + 1) = omega arith in rw e (number_more s at k)
 
 -- four of them
-pub number_four : (s : List ℕ) (at : ℕ) → byte_at s at + 256 * byte_at s (at + 1) + 65536 * (byte_at s (at + 2) + 256 * byte_at s (at + 3)) ≡ number_at s 4 at
+pub number_four : (s : List ℕ) (at : ℕ) → from_le_bytes w32 (listed (byte_at s) at 4) ≡ number_at s 4 at
+unfolding listed
 number_four s at =
-    let two : at + 1 + 1 ≡ at + 2 = omega arith in
-    let three : at + 2 + 1 ≡ at + 3 = omega arith in
-    let a : number_at s 4 at ≡ byte_at s at + 256 * number_at s 3 (at + 1) = number_more s at 3 in
-    let b : number_at s 3 (at + 1) ≡ byte_at s (at + 1) + 256 * number_at s 2 (at + 2) = rw two at (number_more s (at + 1) 2) in
-    let c : number_at s 2 (at + 2) ≡ byte_at s (at + 2) + 256 * number_at s 1 (at + 3) = rw three at (number_more s (at + 2) 1) in
-    let d : number_at s 1 (at + 3) ≡ byte_at s (at + 3) = omega (arith, number_more s (at + 3) 0, number-none s (at + 3 + 1)) in
-    omega arith
+    let a = number_more s at 3 in
+    let b = number_more s (at + 1) 2 in
+    let c = number_more s (at + 1 + 1) 1 in
+    let d = number_more s (at + 1 + 1 + 1) 0 in
+    omega (arith, number-none s (at + 1 + 1 + 1 + 1))
 
--- past the end
-pub number_past : (s : List ℕ) (n at : ℕ) → length s ≤ at → 0 ≡ number_at s n at
-unfolding number_at number_of_bytes
-number_past s n at h = rw (drop_of_length-le s h, take-nil n)
+-- std's bytes of a number, from byte i on, are those of what the bytes before leave of it
+low_bytes : (k i n m : ℕ) → m ≡ n / 256 ^ i → bytes_low_first i k n ≡ number_bytes k m
+unfolding number_bytes
+low_bytes zero i n m e = refl
+low_bytes (suc k) zero n m e =
+    let f : m ≡ n = e ∙ div-one n in
+    rw (low_bytes k 1 n (m / 256) (ap (λ (x : ℕ). x / 256) f)) (ap (λ (x : ℕ). x % 256 ∷ number_bytes k (m / 256)) (sym f))
+low_bytes (suc k) (suc i) n m e =
+    let f : m / 256 ≡ n / 256 ^ suc (suc i) = ap (λ (x : ℕ). x / 256) e ∙ div-div-eq-div-mul n (256 ^ suc i) 256 ∙ ap (λ (x : ℕ). n / x) (sym (pow-suc 256 (suc i))) in
+    rw (low_bytes k (suc (suc i)) n (m / 256) f) (ap (λ (x : ℕ). x % 256 ∷ number_bytes k (m / 256)) (sym e))
 
--- at the front of what follows a place
-pub number_front : (s : List ℕ) (n at : ℕ) → number_at (drop at s) n 0 ≡ number_at s n at
-unfolding number_at
-number_front s n at = refl
+-- and all of them
+pub le_bytes : (w : Width) (n : ℕ) → to_le_bytes w n ≡ number_bytes (byte_len w) n
+le_bytes w n = low_bytes (byte_len w) 0 n n (sym (div-one n))

@@ -1,5 +1,5 @@
 -- What a borrowed buffer holds afterwards.
-use Rattle.std.specs.Prelude.{ℕ, ◌+◌, List, ◌++◌, leb, length, take, drop}
+use Rattle.std.specs.Prelude.{ℕ, ◌+◌, List, ◌++◌, leb, length, take, drop, Option, Some, None}
 use Rattle.std.specs.Prelude.{if◌then◌else◌}
 
 -- the bytes and then what was there, or, where it is too short, what it held
@@ -19,3 +19,9 @@ unfoldable pub length_written : List ℕ → List ℕ → ℕ
 length_written bs out =
     if leb (length bs) (length out) then length bs
     else 0
+
+-- the same as an answer: none where the buffer is too short
+unfoldable pub written_length : List ℕ → List ℕ → Option ℕ
+written_length bs out =
+    if leb (length bs) (length out) then Some (length bs)
+    else None

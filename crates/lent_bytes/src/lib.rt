@@ -1,92 +1,53 @@
-// Bytes compared, numbers read from bytes, and bytes put into a borrowed buffer.
+// Bytes and numbers read from bytes, and bytes put into a borrowed buffer.
 #![tactic(auto)]
 
-ghost use Rattle.std.specs.Prelude.{◌≡◌, ◌++◌, ◌+◌, ◌≤◌, ◌<◌, leb, length};
-ghost use Rattle.std.proofs.lemmas.List.Edits.{sets};
-ghost use Rattle.words.specs.Lists.{byte_at, same_bytes};
+ghost use Rattle.std.specs.Prelude.{◌≡◌, ◌++◌, ◌+◌, leb, length};
+ghost use Rattle.words.specs.Lists.{byte_at, listed};
 ghost use Rattle.lent_bytes.specs.Buffer.{written, written_at};
 ghost use Rattle.lent_bytes.specs.Bytes.{number_at};
 
-use widths::u8_as_u64;
-
-// Whether two are the same, byte by byte.
-pub fn same_bytes(a: &[u8], b: &[u8]) -> bool
-    ensures { result ≡ same_bytes a.now b.now }
-{
-    if a.len() != b.len() {
-        return false;
-    }
-    let mut same = 0;
-    while same < a.len() {
-        if a[same] != b[same] {
-            return false;
-        }
-        same += 1;
-    }
-    true
-}
-
 // The byte at a place, 0 where there is none.
-pub fn byte_at(bytes: &[u8], at: usize) -> u64
-    ensures value { result ≡ byte_at bytes.now at }
-    ensures upper_bound { result < 256 }
+pub fn byte_at(bytes: &[u8], at: usize) -> u8
+    ensures { result ≡ byte_at bytes.now at }
 {
-    if at < bytes.len() {
-        return u8_as_u64(bytes[at]);
-    }
-    0
+    bytes.get(at).copied().unwrap_or(0)
 }
 
-// The number of the first four bytes, the low byte first; a byte that is missing counts as 0.
-fn front_four(bytes: &[u8]) -> u64
-    ensures value { result ≡ number_at bytes.now 4 0 }
-    ensures upper_bound { result < 4294967296 }
+// The N bytes at a place, 0 for each that is missing.
+pub fn bytes_at<const N: usize>(bytes: &[u8], at: usize) -> [u8; N]
+    ensures { result ≡ listed (byte_at bytes.now) at N }
 {
-    let low = byte_at(bytes, 0) + 256 * byte_at(bytes, 1);
-    let high = byte_at(bytes, 2) + 256 * byte_at(bytes, 3);
-    low + 65536 * high
+    let rest = bytes.get(at..).unwrap_or(&[]);
+    std::array::from_fn(|i| byte_at(rest, i))
 }
 
-// Of the four bytes at a place. `put_four` (lent_text) puts them there.
-pub fn four_at(bytes: &[u8], at: usize) -> u64
-    ensures number { result ≡ number_at bytes.now 4 at }
-    ensures few { result < 4294967296 }
+// The number of the four bytes at a place, the low byte first; a byte that is missing counts as 0. `four` of
+// a printer (lent_text) puts them there.
+pub fn four_at(bytes: &[u8], at: usize) -> u32
+    ensures { result ≡ number_at bytes.now 4 at }
 {
-    if bytes.len() < at {
-        return 0;
-    }
-    front_four(&bytes[at..])
-}
-
-// All bytes from a place on, where they fit.
-fn copy_at(out: &mut [u8], at: usize, bytes: &[u8])
-    requires { at + length bytes.now ≤ length out.old }
-    ensures { out.new ≡ sets out.old at bytes.now }
-{
-    let mut i = 0;
-    while i < bytes.len() {
-        out[at + i] = bytes[i];
-        i += 1;
-    }
+    u32::from_le_bytes(bytes_at(bytes, at))
 }
 
 // Whether the bytes fit from a place on, and so were put there. A buffer that is too short is left as it
 // is.
+#[tactic(auto, using(crate::proofs::Buffer::put_over), unfolding(crate::specs::Buffer::written_at))]
 pub fn write_at(out: &mut [u8], at: usize, bytes: &[u8]) -> bool
     ensures reply { result ≡ leb (at + length bytes.now) (length out.old) }
     ensures lent { out.new ≡ written_at at bytes.now out.old }
 {
-    if out.len() < bytes.len() {
+    let Some(end) = at.checked_add(bytes.len()) else {
+        return false;
+    };
+    if out.len() < end {
         return false;
     }
-    if out.len() - bytes.len() < at {
-        return false;
-    }
-    copy_at(out, at, bytes);
+    out[at..end].copy_from_slice(bytes);
     true
 }
 
 // The same at its front.
+#[tactic(auto, using(crate::proofs::Buffer::written_at_0))]
 pub fn write_front(out: &mut [u8], bytes: &[u8]) -> bool
     ensures reply { result ≡ leb (length bytes.now) (length out.old) }
     ensures lent { out.new ≡ written bytes.now out.old }
@@ -99,11 +60,10 @@ pub fn write_both(out: &mut [u8], first: &[u8], second: &[u8]) -> bool
     ensures reply { result ≡ leb (length (first.now ++ second.now)) (length out.old) }
     ensures lent { out.new ≡ written (first.now ++ second.now) out.old }
 {
-    if out.len() < first.len() + second.len() {
+    let at = first.len();
+    if out.len() < at + second.len() {
         return false;
     }
-    copy_at(out, 0, first);
-    let at = first.len();
-    copy_at(out, at, second);
-    true
+    write_front(out, first);
+    write_at(out, at, second)
 }

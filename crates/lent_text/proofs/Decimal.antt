@@ -1,4 +1,5 @@
 -- A number in decimal: digit by digit, how many there are, and that each is one. Assumes nothing.
+use Rattle.std.specs.List.{list_all}
 use mathlib.Core.Path.{◌≡◌, refl}
 use mathlib.Core.Bool.{Bool, true}
 use mathlib.Core.List.{List, [], ◌∷◌, ◌++◌}
@@ -9,7 +10,6 @@ use borrow.Author.Tests.{lt-ltb, le-ltb, le-leb, ltb-true, ltb-false}
 use lib.Dec.{ltb}
 use lib.ListN.{length, length-append}
 use Rattle.words.proofs.Cases.{test, both}
-use Rattle.words.specs.Lists.{every}
 use Rattle.lent_text.specs.Text.{digits, decimal, is_digit}
 
 -- where enough digits are allowed, it does not matter how many are
@@ -58,18 +58,18 @@ pub decimal_length : (k n : ℕ) → 0 < k → n < 10 ^ k → length (decimal n)
 decimal_length k n p h = rw (decimal_few k n p h) (digits_length k n)
 
 -- each entry of two lists passes
-every_append : (p : ℕ → Bool) (s t : List ℕ) → every p s ≡ true → every p t ≡ true → every p (s ++ t) ≡ true
+every_append : (p : ℕ → Bool) (s t : List ℕ) → list_all p s ≡ true → list_all p t ≡ true → list_all p (s ++ t) ≡ true
 every_append p [] t h k = k
 every_append p (x ∷ s) t h k =
-    let b = both (p x) (every p s) h in
+    let b = both (p x) (list_all p s) h in
     rw b.0 (every_append p s t b.1 k)
 
 -- a digit's byte
-one_digit : (d : ℕ) → d < 10 → every is_digit ((48 + d) ∷ []) ≡ true
+one_digit : (d : ℕ) → d < 10 → list_all is_digit ((48 + d) ∷ []) ≡ true
 one_digit d h = rw (le-leb 48 (48 + d) (omega arith), le-leb (48 + d) 57 (omega arith))
 
 -- each byte is a digit, however many digits are allowed
-digits_digits : (k n : ℕ) → every is_digit (digits k n) ≡ true
+digits_digits : (k n : ℕ) → list_all is_digit (digits k n) ≡ true
 unfolding digits
 digits_digits zero n = refl
 digits_digits (suc k) n =
@@ -79,6 +79,6 @@ digits_digits (suc k) n =
     (λ e. rw e (every_append is_digit (digits k (n / 10)) ((48 + n % 10) ∷ []) (digits_digits k (n / 10)) (one_digit (n % 10) (omega arith))))
 
 -- each byte is a digit
-pub decimal-digits : (n : ℕ) → every is_digit (decimal n) ≡ true
+pub decimal-digits : (n : ℕ) → list_all is_digit (decimal n) ≡ true
 unfolding decimal
 decimal-digits n = digits_digits (suc n) n

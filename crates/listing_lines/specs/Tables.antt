@@ -1,4 +1,4 @@
--- As it is run; `lines_with_lem` (column_listing/proofs/Texts) joins it to `column_lines`: by what is called of each column, with windows and tables that are given.
+-- The lines by what is called of each column, however that is made; `lines_with_lem` (column_listing/proofs/Texts) joins them to `column_lines`.
 use Rattle.std.specs.Prelude.{ℕ, ◌+◌, Bool, List, [], ◌∷◌, ◌++◌}
 use Rattle.column_file.specs.Format.{Observation}
 use Rattle.column_calls.specs.declared.columns.ColumnCall.{ColumnCall}

@@ -1,10 +1,11 @@
 // Observations, one after another. The loop does not branch on the lane, and has no index into the
 // builder that is not a constant: so lanes, compensations and counts stay in registers.
-ghost use Rattle.std.specs.Prelude.{◌≡◌, ◌-◌, ◌<◌};
+ghost use Rattle.std.specs.Prelude.{◌≡◌, ◌-◌};
 ghost use Rattle.base_builder.specs.Builder.{total as total_of, full_count};
-ghost use Rattle.observation_windows.specs.Windows.{window_observed, all_added};
+ghost use Rattle.observation_windows.specs.Windows.{all_added};
 
-use base_builder::{ConsensusBaseBuilder, entry, observed, total};
+use crate::table::Windows;
+use base_builder::{ConsensusBaseBuilder, FULL_COUNT, total};
 use phred::PhredScore;
 use tie_rules::{is_base, lanes_after};
 
@@ -12,41 +13,21 @@ use tie_rules::{is_base, lanes_after};
 fn room(observations: [u32; 4]) -> u64
     ensures { result ≡ full_count - total_of observations }
 {
-    let counted = total(observations);
-    if base_builder::FULL_COUNT <= counted {
-        return 0;
-    }
-    base_builder::FULL_COUNT - counted
+    FULL_COUNT.saturating_sub(total(observations))
 }
 
-// The builder after lane k was observed, with the window that starts at a place.
-fn step(
-    builder: ConsensusBaseBuilder,
-    rows: &[f64; 752],
-    from: usize,
-    k: usize,
-) -> ConsensusBaseBuilder
-    requires { from < 749 }
-    ensures { result ≡ window_observed rows.now from k builder }
-{
-    let values = [rows[from], rows[from + 1], rows[from + 2], rows[from + 3]];
-    observed(builder, values, k)
-}
-
-// All observations, base and quality in turn.
+// All observations, base and quality in turn; a byte left over is none.
 pub fn add_observations(
     builder: ConsensusBaseBuilder,
     observations: &[u8],
-    rows: &[f64; 752],
+    windows: &Windows,
 ) -> ConsensusBaseBuilder
-    ensures { result ≡ all_added rows.now builder observations.now }
+    ensures { result ≡ all_added windows.now.rows builder observations.now }
 {
-    let counts = builder.observations;
-    let mut left = room(counts);
+    let mut left = room(builder.observations);
     let mut after = builder;
-    let mut i = 0;
-    while i + 1 < observations.len() {
-        let base = observations[i];
+    for pair in observations.chunks_exact(2) {
+        let base = pair[0];
         if is_base(base) {
             // A full builder takes no base more.
             if left == 0 {
@@ -54,11 +35,9 @@ pub fn add_observations(
             }
             let start = lanes_after(base);
             let k = 3 - start;
-            let q = entry(PhredScore(observations[i + 1]));
-            after = step(after, rows, 8 * q + start, k);
+            after = after.observed(windows.values(PhredScore(pair[1]), start), k);
             left -= 1;
         }
-        i += 2;
     }
     after
 }

@@ -6,4 +6,4 @@ mod adding;
 mod table;
 
 pub use adding::add_observations;
-pub use table::{window_of, windows};
+pub use table::{Windows, window_of};

@@ -8,6 +8,7 @@ ghost use Rattle.phred.specs.Phred.{ln_sum_exp_array};
 use crate::{LogProbability, ln_sum_exp_f64};
 
 // Two lanes as a sum takes them: the lowest, the one to start from, and the other.
+// kept: no plainer: nothing compares or prints it
 #[derive(Clone, Copy)]
 pub struct FirstTwo {
     pub least: f64,
@@ -16,6 +17,7 @@ pub struct FirstTwo {
 }
 
 // Three lanes, likewise.
+// kept: no plainer: nothing compares or prints it
 #[derive(Clone, Copy)]
 pub struct FirstThree {
     pub least: f64,

@@ -223,6 +223,7 @@ fn all_ln_zero(values: &[f64]) -> bool
 }
 
 // The lowest lane so far, by its place and its value.
+// kept: no plainer: nothing compares or prints it
 #[derive(Clone, Copy)]
 pub struct Lowest {
     pub place: usize,

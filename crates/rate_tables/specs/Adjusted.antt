@@ -1,8 +1,10 @@
 -- What an observation adds to a lane's logarithm at each quality, for a post-UMI rate.
-use Rattle.std.specs.Prelude.{ℕ, List, Float}
+use Rattle.std.specs.Prelude.{ℕ, min, List, get_or, Float}
+use Rattle.std.specs.Float.{nan}
 use Rattle.float.specs.Ops.{◌⊖◌, three}
 use Rattle.elementary.specs.Ln.{ln_of}
 use Rattle.phred.specs.Phred.{phred_to_ln_error_prob, ln_error_prob_two_trials, ln_not}
+use Rattle.rate_tables.specs.declared.adjusted.AdjustedEntry.{AdjustedEntry}
 use Rattle.rate_tables.specs.declared.adjusted.AdjustedProbabilityTables.{AdjustedProbabilityTables}
 use Rattle.rate_tables.specs.Tables.{levels}
 
@@ -25,3 +27,7 @@ adjusted_of correct error = record { correct = correct; error_per_alt = error }
 -- both tables of a rate
 unfoldable pub adjusted_tables : ℕ → AdjustedProbabilityTables
 adjusted_tables post = record { correct = levels (correct_at post); error_per_alt = levels (error_per_alt_at post) }
+
+-- the entries of one quality: qualities above 93 use entry 93
+abbrev pub entry_at : AdjustedProbabilityTables → ℕ → AdjustedEntry
+entry_at t q = record { correct = get_or t.correct (min q 93) nan; error_per_alt = get_or t.error_per_alt (min q 93) nan }

@@ -1,12 +1,10 @@
 // What an observation adds to a lane's logarithm at each quality, for a post-UMI rate.
-ghost use Rattle.std.specs.Prelude.{◌≡◌, min, get_or};
-ghost use Rattle.std.specs.Float.{nan};
-ghost use Rattle.rate_tables.specs.Tables.{levels};
-ghost use Rattle.rate_tables.specs.Adjusted.{adjusted_error, correct_at, error_per_alt_at, adjusted_tables};
+ghost use Rattle.std.specs.Prelude.{◌≡◌};
+ghost use Rattle.rate_tables.specs.Adjusted.{adjusted_error, correct_at, error_per_alt_at, adjusted_tables, entry_at};
 
 use phred::{LogProbability, PhredScore};
 
-#[derive(Clone, Copy)]
+#[derive(Clone, Copy, Debug, PartialEq)]
 pub struct AdjustedProbabilityTables {
     // The logarithm of being right, for each quality.
     pub correct: [f64; 94],
@@ -15,7 +13,7 @@ pub struct AdjustedProbabilityTables {
 }
 
 // The entries of one quality.
-#[derive(Clone, Copy)]
+#[derive(Clone, Copy, Debug, PartialEq)]
 pub struct AdjustedEntry {
     pub correct: f64,
     pub error_per_alt: f64,
@@ -26,65 +24,37 @@ impl AdjustedProbabilityTables {
         ensures { result ≡ adjusted_tables error_rate_post_umi.0 }
     {
         let post = error_rate_post_umi.0;
-        let correct = correct_table(post);
-        let error_per_alt = error_table(post);
         Self {
-            correct,
-            error_per_alt,
+            correct: std::array::from_fn(|q| correct_at(post, q as u8)),
+            error_per_alt: std::array::from_fn(|q| error_per_alt_at(post, q as u8)),
+        }
+    }
+
+    // The entries of one quality. Qualities above 93 use entry 93.
+    pub fn entry(&self, qual: PhredScore) -> AdjustedEntry
+        ensures { result ≡ entry_at self.now qual.0 }
+    {
+        let q = usize::from(qual.0.min(93));
+        AdjustedEntry {
+            correct: self.correct[q],
+            error_per_alt: self.error_per_alt[q],
         }
     }
 }
 
-// The entries of one quality alone, with no table built. Qualities above 93 use entry 93.
+// The same with no table built.
 pub fn adjusted_entry(error_rate_post_umi: PhredScore, qual: PhredScore) -> AdjustedEntry
-    ensures correct { result.correct ≡ get_or (adjusted_tables error_rate_post_umi.0).correct (min qual.0 93) nan }
-    ensures error { result.error_per_alt ≡ get_or (adjusted_tables error_rate_post_umi.0).error_per_alt (min qual.0 93) nan }
+    ensures { result ≡ entry_at (adjusted_tables error_rate_post_umi.0) qual.0 }
 {
     let post = error_rate_post_umi.0;
-    let q = entry_quality(qual.0);
-    let correct = correct_at(post, q);
-    let error_per_alt = error_per_alt_at(post, q);
+    let q = qual.0.min(93);
     AdjustedEntry {
-        correct,
-        error_per_alt,
+        correct: correct_at(post, q),
+        error_per_alt: error_per_alt_at(post, q),
     }
 }
 
-fn entry_quality(q: u8) -> u8
-    ensures { result ≡ min q 93 }
-{
-    if 93 < q {
-        return 93;
-    }
-    q
-}
-
-fn correct_table(post: u8) -> [f64; 94]
-    ensures { result ≡ levels (correct_at post) }
-{
-    let mut table = [0.0; 94];
-    let mut q: u8 = 0;
-    while q < 94 {
-        let at = q as usize;
-        table[at] = correct_at(post, q);
-        q += 1;
-    }
-    table
-}
-
-fn error_table(post: u8) -> [f64; 94]
-    ensures { result ≡ levels (error_per_alt_at post) }
-{
-    let mut table = [0.0; 94];
-    let mut q: u8 = 0;
-    while q < 94 {
-        let at = q as usize;
-        table[at] = error_per_alt_at(post, q);
-        q += 1;
-    }
-    table
-}
-
+#[tactic(auto, unfolding(crate::specs::Adjusted::adjusted_error))]
 fn adjusted_error(post: u8, q: u8) -> LogProbability
     ensures { result.0 ≡ adjusted_error post q }
 {
@@ -94,12 +64,14 @@ fn adjusted_error(post: u8, q: u8) -> LogProbability
     )
 }
 
+#[tactic(auto, unfolding(crate::specs::Adjusted::correct_at))]
 fn correct_at(post: u8, q: u8) -> f64
     ensures { result ≡ correct_at post q }
 {
     phred::ln_not(adjusted_error(post, q)).0
 }
 
+#[tactic(auto, unfolding(crate::specs::Adjusted::error_per_alt_at))]
 fn error_per_alt_at(post: u8, q: u8) -> f64
     ensures { result ≡ error_per_alt_at post q }
 {

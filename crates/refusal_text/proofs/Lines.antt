@@ -1,12 +1,11 @@
--- How long the line of a refusal is, and that it is put at the front of a buffer. Assumes nothing.
-use mathlib.Core.Path.{◌≡◌, sym, ◌∙◌, ap}
-use mathlib.Core.Bool.{Bool, true, false}
-use mathlib.Core.List.{List}
-use Prim.Native.Nat.{ℕ, ◌≤◌, ◌<◌}
+-- How long the line of a refusal is, and how it is put aside. Assumes nothing.
+use mathlib.Core.Path.{◌≡◌}
+use Prim.Native.Nat.{◌≤◌, ◌<◌}
 use native.Mathlib.Omega.{arith}
-use lib.Dec.{leb}
-use lib.ListN.{length, length-append}
-use Rattle.lent_bytes.specs.Buffer.{length_written, written}
+use lib.ListN.{length, take, length-append}
+use Rattle.lent_text.specs.declared.Printer.{Printer}
+use Rattle.lent_text.specs.Printed.{Printed}
+use Rattle.lent_text.proofs.Printed.{printed_written, printed_front}
 use Rattle.lent_text.proofs.Decimal.{decimal_length}
 use Rattle.refusals.specs.declared.Refusal.{Refusal}
 use Rattle.refusals.specs.Refusals.{number_of}
@@ -23,16 +22,10 @@ pub refusal_some : (r : Refusal) → 0 < length (refusal_line r)
 unfolding refusal_line
 refusal_some r = omega arith
 
--- put at the front of a buffer, as the bytes bs
-module _ (t out bs l : List ℕ) (n : ℕ) (b : Bool) (e : bs ≡ t) (k : n ≡ length t) (h : b ≡ leb (length bs) (length out)) (w : l ≡ written bs out) where
-  pub line_put : b ≡ true → (n ≡ length_written t out) × (l ≡ written t out)
-  unfolding length_written
-  line_put y =
-      let i : leb (length t) (length out) ≡ true = ap (λ (x : List ℕ). leb (length x) (length out)) (sym e) ∙ sym h ∙ y in
-      (rw i k, w ∙ ap (λ (x : List ℕ). written x out) e)
-
-  pub line_not_put : b ≡ false → (0 ≡ length_written t out) × (l ≡ written t out)
-  unfolding length_written
-  line_not_put y =
-      let i : leb (length t) (length out) ≡ false = ap (λ (x : List ℕ). leb (length x) (length out)) (sym e) ∙ sym h ∙ y in
-      (rw i, w ∙ ap (λ (x : List ℕ). written x out) e)
+-- put aside, where there is room for it
+pub line_aside : {p q : Printer} (r : Refusal) → Printed p q (refusal_line r) → p.at ≡ 0 → 11 ≤ length p.out.now
+    → (q.at ≡ length (refusal_line r)) × (q.at ≤ 11) × (take q.at q.out.now ≡ refusal_line r)
+line_aside r f z h =
+    let l = refusal_length r in
+    let n = (printed_written f z (omega arith)).0 in
+    (n, omega arith, printed_front f z (omega arith))

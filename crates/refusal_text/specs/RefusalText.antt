@@ -1,8 +1,8 @@
 -- What is printed of a refused input.
-use Rattle.std.specs.Prelude.{ℕ, List, [], ◌∷◌}
+use Rattle.std.specs.Prelude.{ℕ, List, [], ◌∷◌, Err, Ok}
 use Rattle.refusals.specs.declared.Refusal.{Refusal}
 use Rattle.refusals.specs.Refusals.{number_of}
-use Rattle.refusals.specs.Result.{Result, refused, accepted}
+use Rattle.refusals.specs.Result.{Result}
 use Rattle.lent_text.specs.Text.{letters, decimal, line}
 
 -- its number alone
@@ -11,5 +11,5 @@ refusal_line r = line (letters "refused" ∷ decimal (number_of r) ∷ [])
 
 -- what is printed of a result: the text, or the line of a refusal
 abbrev pub printed : Result (List ℕ) → List ℕ
-printed (refused r) = refusal_line r
-printed (accepted t) = t
+printed (Err r) = refusal_line r
+printed (Ok t) = t

@@ -2,34 +2,34 @@
 #![tactic(auto)]
 
 ghost use Rattle.std.specs.Prelude.{◌≡◌};
-ghost use Rattle.lent_bytes.specs.Buffer.{length_written, written};
+ghost use Rattle.lent_bytes.specs.Buffer.{written, written_length};
 ghost use Rattle.lent_text.specs.Printed.{Printed};
 ghost use Rattle.refusal_text.specs.RefusalText.{refusal_line};
 
-use lent_text::{put_byte, put_bytes, put_decimal};
+use lent_text::Printer;
 use refusals::Refusal;
-use widths::u8_as_u64;
 
-// The line, from the front of a buffer on.
-fn put_refusal(out: &mut [u8], refusal: Refusal) -> usize
-    ensures { Printed out.old 0 (refusal_line refusal) out.new result }
+// The line.
+fn put_refusal(p: &mut Printer, refusal: Refusal)
+    ensures { Printed p.old p.new (refusal_line refusal) }
 {
-    let number = refusals::number(refusal);
-    let a = put_bytes(out, 0, b"refused ");
-    let b = put_decimal(out, a, u8_as_u64(number));
-    put_byte(out, b, b'\n')
+    p.bytes(b"refused ");
+    p.decimal(u64::from(u8::from(refusal)));
+    p.byte(b'\n');
 }
 
-// The line, where it fits, and how long it is; 0 where the buffer is too short, which is then left as it
-// is.
-pub fn print_refusal(refusal: Refusal, out: &mut [u8]) -> usize
-    ensures reply { result ≡ length_written (refusal_line refusal) out.old }
+// The line, where it fits, and how long it is. A buffer that is too short is left as it is.
+pub fn print_refusal(refusal: Refusal, out: &mut [u8]) -> Option<usize>
+    ensures reply { result ≡ written_length (refusal_line refusal) out.old }
     ensures lent { out.new ≡ written (refusal_line refusal) out.old }
 {
+    // kept: rule of the project: no heap, so the line is made aside in a fixed array
     let mut aside = [0u8; 16];
-    let n = put_refusal(&mut aside, refusal);
-    if lent_bytes::write_front(out, &aside[..n]) {
-        return n;
-    }
-    0
+    let mut p = Printer {
+        out: &mut aside,
+        at: 0,
+    };
+    put_refusal(&mut p, refusal);
+    let n = p.at;
+    lent_bytes::write_front(out, &aside[..n]).then_some(n)
 }

@@ -1,13 +1,12 @@
 -- An answer that says what was refused has its number, which is small, and the first of two tests that refuses gives its own. Assumes nothing.
+use Rattle.std.specs.Prelude.{Err, Ok}
 use mathlib.Core.Path.{◌≡◌, refl, ◌∙◌, ap}
 use Prim.Native.Nat.{ℕ, ◌<◌}
 use native.Mathlib.Omega.{arith}
 use Rattle.refusals.specs.declared.Refusal.{Refusal}
 use Rattle.refusals.specs.declared.Refusal.TheVariants.{FileTooLong, CutOff, BadSettings, AbsentQuality, NoStrings, LengthsDiffer, NotAscii, UnlikeFirst, Mixed, BufferTooShort, FullBuilder, NoRoomForPart, OutOfTurn}
-use Rattle.refusals.specs.declared.Verdict.{Verdict}
-use Rattle.refusals.specs.declared.Verdict.TheVariants.{Sound, Refused}
-use Rattle.refusals.specs.Refusals.{number_of, number_in, verdict_number, first_number}
-use Rattle.refusals.specs.Result.{Result, or_else}
+use Rattle.refusals.specs.Refusals.{number_of, number_in, first_number}
+use Rattle.refusals.specs.Result.{Result, map_ok, or_else, Verdict}
 
 -- an answer that is known, and then its number
 pub said_number : {R : Type 0} (number : R → ℕ) (d : R) (n : ℕ) → number d ≡ n → (r : R) → r ≡ d → (r ≡ d) × (number r ≡ n)
@@ -18,25 +17,27 @@ pub numbered : {A R : Type 0} (answer : Result A → R) (number : R → ℕ) →
     → (r : R) (q : Result A) → r ≡ answer q → (r ≡ answer q) × (number r ≡ number_in q)
 numbered answer number same r q e = said_number number (answer q) (number_in q) (same q) r e
 
--- no refusal's number is 0
-first_number_lem : (v w : Verdict) → verdict_number (or_else v w) ≡ first_number (verdict_number v) (verdict_number w)
-first_number_lem Sound w = refl
-first_number_lem (Refused FileTooLong) w = refl
-first_number_lem (Refused CutOff) w = refl
-first_number_lem (Refused BadSettings) w = refl
-first_number_lem (Refused AbsentQuality) w = refl
-first_number_lem (Refused NoStrings) w = refl
-first_number_lem (Refused LengthsDiffer) w = refl
-first_number_lem (Refused NotAscii) w = refl
-first_number_lem (Refused UnlikeFirst) w = refl
-first_number_lem (Refused Mixed) w = refl
-first_number_lem (Refused BufferTooShort) w = refl
-first_number_lem (Refused FullBuilder) w = refl
-first_number_lem (Refused NoRoomForPart) w = refl
-first_number_lem (Refused OutOfTurn) w = refl
+-- what is made of a value changes no number
+pub number_in-map_ok : {A B : Type 0} (f : A → B) (q : Result A) → number_in (map_ok f q) ≡ number_in q
+number_in-map_ok f (Err r) = refl
+number_in-map_ok f (Ok a) = refl
 
-pub or_else_said : (v w r : Verdict) → r ≡ or_else v w → (r ≡ or_else v w) × (verdict_number r ≡ first_number (verdict_number v) (verdict_number w))
-or_else_said v w r e = said_number verdict_number (or_else v w) (first_number (verdict_number v) (verdict_number w)) (first_number_lem v w) r e
+-- the number of two tests in turn is the first that is not 0: no refusal's number is 0
+pub number_in-or_else : (v w : Verdict) → number_in (or_else v w) ≡ first_number (number_in v) (number_in w)
+number_in-or_else (Ok _) w = refl
+number_in-or_else (Err FileTooLong) w = refl
+number_in-or_else (Err CutOff) w = refl
+number_in-or_else (Err BadSettings) w = refl
+number_in-or_else (Err AbsentQuality) w = refl
+number_in-or_else (Err NoStrings) w = refl
+number_in-or_else (Err LengthsDiffer) w = refl
+number_in-or_else (Err NotAscii) w = refl
+number_in-or_else (Err UnlikeFirst) w = refl
+number_in-or_else (Err Mixed) w = refl
+number_in-or_else (Err BufferTooShort) w = refl
+number_in-or_else (Err FullBuilder) w = refl
+number_in-or_else (Err NoRoomForPart) w = refl
+number_in-or_else (Err OutOfTurn) w = refl
 
 -- a number of two digits
 pub number_small : (r : Refusal) → number_of r < 100

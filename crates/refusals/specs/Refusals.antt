@@ -1,10 +1,8 @@
 -- The numbers of the conditions (SCOPE 7).
-use Rattle.std.specs.Prelude.{ℕ, zero, suc}
+use Rattle.std.specs.Prelude.{ℕ, zero, suc, Err, Ok}
 use Rattle.refusals.specs.declared.Refusal.{Refusal}
 use Rattle.refusals.specs.declared.Refusal.TheVariants.{FileTooLong, CutOff, BadSettings, AbsentQuality, NoStrings, LengthsDiffer, NotAscii, UnlikeFirst, Mixed, BufferTooShort, FullBuilder, NoRoomForPart, OutOfTurn}
-use Rattle.refusals.specs.declared.Verdict.{Verdict}
-use Rattle.refusals.specs.declared.Verdict.TheVariants.{Sound, Refused}
-use Rattle.refusals.specs.Result.{Result, refused, accepted}
+use Rattle.refusals.specs.Result.{Result}
 
 -- the number of a refusal
 abbrev pub number_of : Refusal → ℕ
@@ -24,13 +22,8 @@ number_of OutOfTurn = 13
 
 -- the number by which something is refused, 0 where it is accepted
 abbrev pub number_in : {A : Type 0} → Result A → ℕ
-number_in (refused r) = number_of r
-number_in (accepted a) = 0
-
--- the number by which a test refuses, 0 where it does not
-abbrev pub verdict_number : Verdict → ℕ
-verdict_number Sound = 0
-verdict_number (Refused r) = number_of r
+number_in (Err r) = number_of r
+number_in (Ok a) = 0
 
 -- the first of two numbers that is not 0
 abbrev pub first_number : ℕ → ℕ → ℕ

@@ -1,5 +1,5 @@
 -- What a function gives for the numbers of a line.
-use Rattle.std.specs.Prelude.{ℕ, List, [], ◌∷◌, nat_lt, slice_index, to_bits, Float}
+use Rattle.std.specs.Prelude.{ℕ, List, [], ◌∷◌, nat_lt, slice_index, to_bits, Float, Option, Some, None}
 use Rattle.std.specs.Float.{binary64}
 use Rattle.replay.specs.declared.functions.Function.{Function}
 use Rattle.replay.specs.declared.functions.Function.TheVariants.{OfLevel, OfNumber, OfPair, LnSumExpArray, LnProbToPhred}
@@ -9,8 +9,6 @@ use Rattle.replay.specs.declared.functions.NumberFunction.{NumberFunction}
 use Rattle.replay.specs.declared.functions.NumberFunction.TheVariants.{Exp, Ln, LnOnePlus, ExpMinusOne, LogOnePlusExp, LnOneMinusExp, LnNot}
 use Rattle.replay.specs.declared.functions.PairFunction.{PairFunction}
 use Rattle.replay.specs.declared.functions.PairFunction.TheVariants.{LnAMinusB, LnErrorProbTwoTrials, LnSumExp, LnNormalize}
-use Rattle.replay.specs.declared.hex.MaybeNumber.{MaybeNumber}
-use Rattle.replay.specs.declared.hex.MaybeNumber.TheVariants.{Number, NoNumber}
 use Rattle.float.specs.Ops.{bits}
 use Rattle.std.specs.Prelude.{if◌then◌else◌}
 use Rattle.elementary.specs.Exp.{exp_of}
@@ -42,13 +40,13 @@ at_pair LnSumExp x y = ln_sum_exp x y
 at_pair LnNormalize x y = ln_normalize x y
 
 -- the bit pattern of x: 0x7ff8_0000_0000_0000 for a NaN, as the list has it
-abbrev pub bit_pattern : Float → MaybeNumber
-bit_pattern x = Number (to_bits binary64 x)
+abbrev pub bit_pattern : Float → Option ℕ
+bit_pattern x = Some (to_bits binary64 x)
 
 -- that of a function's value at a level, which has 8 bits
-abbrev pub level_answer : LevelFunction → ℕ → MaybeNumber
+abbrev pub level_answer : LevelFunction → ℕ → Option ℕ
 level_answer f n =
-    if nat_lt 255 n then NoNumber
+    if nat_lt 255 n then None
     else bit_pattern (at_level f n)
 
 -- number k of a line, as an f64
@@ -56,9 +54,9 @@ abbrev pub real_at : List ℕ → ℕ → Float
 real_at ns k = bits (slice_index ns k)
 
 -- what the function gives for the arguments that the numbers start with: the bit pattern of its value, or a level
-abbrev pub our_answer_of : Function → List ℕ → MaybeNumber
+abbrev pub our_answer_of : Function → List ℕ → Option ℕ
 our_answer_of (OfLevel f) ns = level_answer f (slice_index ns 0)
 our_answer_of (OfNumber f) ns = bit_pattern (at_number f (real_at ns 0))
 our_answer_of (OfPair f) ns = bit_pattern (at_pair f (real_at ns 0) (real_at ns 1))
 our_answer_of LnSumExpArray ns = bit_pattern (ln_sum_exp_array (real_at ns 0 ∷ real_at ns 1 ∷ real_at ns 2 ∷ real_at ns 3 ∷ []))
-our_answer_of LnProbToPhred ns = Number (ln_prob_to_phred (real_at ns 0))
+our_answer_of LnProbToPhred ns = Some (ln_prob_to_phred (real_at ns 0))

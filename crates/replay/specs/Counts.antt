@@ -1,19 +1,28 @@
 -- How many answers were read, and how many of them are equal, by the letters of their lines.
-use Rattle.std.specs.Prelude.{ℕ, ◌+◌, ◌%◌, ◌^◌, List, slice_index, slice_set}
+use Rattle.std.specs.Prelude.{ℕ, ◌+◌, ◌%◌, ◌^◌, List, slice_set}
+use Rattle.std.specs.Prelude.{slice_index_or}
+use Rattle.replay.specs.declared.counts.Count.{Count}
 use Rattle.replay.specs.declared.lines.LineVerdict.{LineVerdict}
 use Rattle.replay.specs.declared.lines.LineVerdict.TheVariants.{End, Equal, Differs, NotAnAnswer}
 
--- the answers at the letter, and those that are equal 256 places further on
-abbrev pub counters : ℕ
-counters = 512
+-- a counter has 64 bits
+abbrev pub one_more : ℕ → ℕ
+one_more n = (n + 1) % 2 ^ 64
 
--- one more at a place; a counter has 64 bits
-abbrev pub one_more : List ℕ → ℕ → List ℕ
-one_more counts i = slice_set counts i ((slice_index counts i + 1) % 2 ^ 64)
+-- one more answer, which is equal or not
+abbrev pub with_equal : Count → Count
+with_equal c = record { all = one_more c.all; equal = one_more c.equal }
+
+abbrev pub with_different : Count → Count
+with_different c = record c { all = one_more c.all }
+
+-- those of a letter
+abbrev pub count_at : List Count → ℕ → Count
+count_at counts letter = slice_index_or counts letter (record { all = 0; equal = 0 })
 
 -- what the verdict on a line adds
-abbrev pub counted_of : List ℕ → LineVerdict → List ℕ
+abbrev pub counted_of : List Count → LineVerdict → List Count
 counted_of counts End = counts
 counted_of counts NotAnAnswer = counts
-counted_of counts (Equal letter) = one_more (one_more counts letter) (letter + 256)
-counted_of counts (Differs letter) = one_more counts letter
+counted_of counts (Equal letter) = slice_set counts letter (with_equal (count_at counts letter))
+counted_of counts (Differs letter) = slice_set counts letter (with_different (count_at counts letter))

@@ -1,16 +1,16 @@
 // What our functions give for the numbers of a line.
 ghost use Rattle.std.specs.Prelude.{◌≡◌};
-ghost use Rattle.replay.specs.Answers.{at_level, at_number, at_pair, bit_pattern, level_answer, our_answer_of};
+ghost use Rattle.replay.specs.Answers.{at_level, at_number, at_pair, level_answer, our_answer_of};
 
 use crate::functions::{Function, LevelFunction, NumberFunction, PairFunction};
-use crate::hex::MaybeNumber;
 use crate::lines::NUMBERS;
-use float::from_pattern;
+use float::{from_pattern, pattern};
 use phred::{LogProbability, PhredScore};
 
 // What the function gives for the arguments that the numbers start with: the bit pattern of its value,
 // or a level.
-pub fn our_answer(function: Function, numbers: [u64; NUMBERS]) -> MaybeNumber
+// kept: no plainer: a stored line names its function by a letter, and functions of five types stand behind them
+pub(crate) fn our_answer(function: Function, numbers: [u64; NUMBERS]) -> Option<u64>
     ensures { result ≡ our_answer_of function numbers }
 {
     let x = from_pattern(numbers[0]);
@@ -19,23 +19,19 @@ pub fn our_answer(function: Function, numbers: [u64; NUMBERS]) -> MaybeNumber
     let w = from_pattern(numbers[3]);
     match function {
         Function::OfLevel(f) => level_answer(f, numbers[0]),
-        Function::OfNumber(f) => bit_pattern(at_number(f, x)),
-        Function::OfPair(f) => bit_pattern(at_pair(f, x, y)),
-        Function::LnSumExpArray => bit_pattern(phred::ln_sum_exp_array(&[x, y, z, w]).0),
-        Function::LnProbToPhred => {
-            MaybeNumber::Number(phred::ln_prob_to_phred(LogProbability(x)).0 as u64)
-        }
+        Function::OfNumber(f) => Some(pattern(at_number(f, x))),
+        Function::OfPair(f) => Some(pattern(at_pair(f, x, y))),
+        Function::LnSumExpArray => Some(pattern(phred::ln_sum_exp_array(&[x, y, z, w]).0)),
+        Function::LnProbToPhred => Some(u64::from(phred::ln_prob_to_phred(LogProbability(x)).0)),
     }
 }
 
 // There is no value at a level of more than 8 bits.
-fn level_answer(f: LevelFunction, n: u64) -> MaybeNumber
+fn level_answer(f: LevelFunction, n: u64) -> Option<u64>
     ensures { result ≡ level_answer f n }
 {
-    if 255 < n {
-        return MaybeNumber::NoNumber;
-    }
-    bit_pattern(at_level(f, PhredScore(n as u8)))
+    let level = u8::try_from(n).ok()?;
+    Some(pattern(at_level(f, PhredScore(level))))
 }
 
 fn at_level(f: LevelFunction, level: PhredScore) -> f64
@@ -72,10 +68,4 @@ fn at_pair(f: PairFunction, x: f64, y: f64) -> f64
         PairFunction::LnSumExp => phred::ln_sum_exp(LogProbability(x), LogProbability(y)).0,
         PairFunction::LnNormalize => phred::ln_normalize(LogProbability(x), LogProbability(y)).0,
     }
-}
-
-fn bit_pattern(x: f64) -> MaybeNumber
-    ensures { result ≡ bit_pattern x }
-{
-    MaybeNumber::Number(float::pattern(x))
 }

@@ -1,33 +1,40 @@
 // How many answers were read, and how many of them are equal to ours, by the letters of their lines.
-ghost use Rattle.std.specs.Prelude.{◌≡◌, ◌<◌};
-ghost use Rattle.replay.specs.Counts.{counters, one_more, counted_of};
+ghost use Rattle.std.specs.Prelude.{◌≡◌};
+ghost use Rattle.replay.specs.Counts.{counted_of};
 
 use crate::lines::LineVerdict;
 
-// The answers at the letter, and those that are equal 256 places further on.
-pub const COUNTERS: usize = 512;
+// The lines of one letter.
+#[derive(Clone, Copy, Debug, PartialEq, Eq)]
+pub struct Count {
+    pub all: u64,
+    pub equal: u64,
+}
 
-// What the verdict on a line adds.
-pub fn count_line(counts: &mut [u64; COUNTERS], verdict: LineVerdict)
+// By the letter.
+pub(crate) type Counts = [Count; 256];
+
+pub(crate) const NONE_YET: Count = Count { all: 0, equal: 0 };
+
+// What the verdict on a line adds. A counter has 64 bits.
+pub(crate) fn count_line(counts: &mut Counts, verdict: LineVerdict)
     ensures { counts.new ≡ counted_of counts.old verdict }
 {
     match verdict {
-        LineVerdict::End => {}
-        LineVerdict::NotAnAnswer => {}
+        LineVerdict::End | LineVerdict::NotAnAnswer => {}
         LineVerdict::Equal(letter) => {
-            one_more(counts, letter as usize);
-            one_more(counts, letter as usize + 256);
+            let Count { all, equal } = counts[usize::from(letter)];
+            counts[usize::from(letter)] = Count {
+                all: all.wrapping_add(1),
+                equal: equal.wrapping_add(1),
+            };
         }
         LineVerdict::Differs(letter) => {
-            one_more(counts, letter as usize);
+            let count = counts[usize::from(letter)];
+            counts[usize::from(letter)] = Count {
+                all: count.all.wrapping_add(1),
+                ..count
+            };
         }
     }
-}
-
-// One more at a place. A counter has 64 bits.
-fn one_more(counts: &mut [u64; COUNTERS], place: usize)
-    requires { place < counters }
-    ensures { counts.new ≡ one_more counts.old place }
-{
-    counts[place] = std::num::wrapping_add_u64(counts[place], 1);
 }

@@ -1,30 +1,29 @@
 // A field of bytes: a space, and two digits for each byte.
-ghost use Rattle.std.specs.Prelude.{◌≡◌, ◌+◌, ◌*◌, true, length};
-ghost use Rattle.replay.specs.Fields.{is_field, field_bytes};
+ghost use Rattle.std.specs.Prelude.{◌≡◌, ◌+◌, ◌*◌, length};
+ghost use Rattle.replay.specs.Fields.{byte_of_digits, field_bytes};
 
 use crate::hex;
 
-// Reads a field of as many bytes as the buffer has, and answers if it is one.
-pub(crate) fn read_field(field: &[u8], out: &mut [u8]) -> bool
-    requires { length field.now ≡ 2 * length out.old + 1 }
-    ensures value { result ≡ is_field field.now }
-    ensures out_after { result ≡ true → out.new ≡ field_bytes field.now }
+// The N bytes of a field, where it is one.
+#[tactic(auto, unfolding(crate::specs::Fields::field_bytes, crate::specs::Fields::bytes_of_digits))]
+pub(crate) fn read_field<const N: usize>(field: &[u8]) -> Option<[u8; N]>
+    requires { length field.now ≡ 2 * N + 1 }
+    ensures { result ≡ field_bytes field.now }
 {
-    if field[0] != b' ' {
-        return false;
+    let (space, digits) = field.split_first()?;
+    if *space != b' ' {
+        return None;
     }
-    let mut i = 0;
-    while i < out.len() {
-        let high = hex::digit(field[2 * i + 1]);
-        if 15 < high {
-            return false;
-        }
-        let low = hex::digit(field[2 * i + 2]);
-        if 15 < low {
-            return false;
-        }
-        out[i] = (16 * high + low) as u8;
-        i += 1;
+    // kept: no plainer: `from_fn` of a closure that may find no digit would need the array of the options first
+    let mut bytes = [0; N];
+    for (i, b) in bytes.iter_mut().enumerate() {
+        *b = byte(digits[2 * i], digits[2 * i + 1])?;
     }
-    true
+    Some(bytes)
+}
+
+fn byte(high: u8, low: u8) -> Option<u8>
+    ensures { result ≡ byte_of_digits high low }
+{
+    Some(16 * hex::digit(high)? + hex::digit(low)?)
 }

@@ -3,13 +3,13 @@
 // of kind_of and of its value, and a line of what is printed; a further kind of line is a case of
 // LineKind, its length and its judge.
 ghost use Rattle.std.specs.Prelude.{◌≡◌, ◌≤◌};
-ghost use Rattle.replay.specs.Functions.{longest_line, kind_of, length_of, arguments_of};
+ghost use Rattle.replay.specs.Functions.{longest_line, kind_of, length_by, arguments_of};
 
 // No line has more bytes.
-pub const LONGEST_LINE: usize = 1292;
+pub(crate) const LONGEST_LINE: usize = 1292;
 
 // By their arguments.
-#[derive(Clone, Copy)]
+#[derive(Clone, Copy, Debug, PartialEq, Eq)]
 pub enum Function {
     OfLevel(LevelFunction),
     OfNumber(NumberFunction),
@@ -20,13 +20,13 @@ pub enum Function {
     LnProbToPhred,
 }
 
-#[derive(Clone, Copy)]
+#[derive(Clone, Copy, Debug, PartialEq, Eq)]
 pub enum LevelFunction {
     PhredToLnErrorProb,
     PhredToLnCorrectProb,
 }
 
-#[derive(Clone, Copy)]
+#[derive(Clone, Copy, Debug, PartialEq, Eq)]
 pub enum NumberFunction {
     Exp,
     Ln,
@@ -37,7 +37,7 @@ pub enum NumberFunction {
     LnNot,
 }
 
-#[derive(Clone, Copy)]
+#[derive(Clone, Copy, Debug, PartialEq, Eq)]
 pub enum PairFunction {
     LnAMinusB,
     LnErrorProbTwoTrials,
@@ -45,7 +45,7 @@ pub enum PairFunction {
     LnNormalize,
 }
 
-#[derive(Clone, Copy)]
+#[derive(Clone, Copy, Debug, PartialEq, Eq)]
 pub enum LineKind {
     // The function's arguments and its result.
     FunctionLine(Function),
@@ -53,59 +53,59 @@ pub enum LineKind {
     BuilderLine,
     // A column file and its listing.
     ListingLine,
-    UnknownLine,
 }
 
-pub fn kind_of(letter: u8) -> LineKind
+#[tactic(auto, unfolding(crate::specs::Functions::kind_of))]
+pub(crate) fn kind_of(letter: u8) -> Option<LineKind>
     ensures { result ≡ kind_of letter }
 {
-    match letter {
-        b'e' => LineKind::FunctionLine(Function::OfNumber(NumberFunction::Exp)),
-        b'l' => LineKind::FunctionLine(Function::OfNumber(NumberFunction::Ln)),
-        b'p' => LineKind::FunctionLine(Function::OfNumber(NumberFunction::LnOnePlus)),
-        b'm' => LineKind::FunctionLine(Function::OfNumber(NumberFunction::ExpMinusOne)),
-        b'q' => LineKind::FunctionLine(Function::OfLevel(LevelFunction::PhredToLnErrorProb)),
-        b'r' => LineKind::FunctionLine(Function::OfLevel(LevelFunction::PhredToLnCorrectProb)),
-        b'f' => LineKind::FunctionLine(Function::LnProbToPhred),
-        b'g' => LineKind::FunctionLine(Function::OfNumber(NumberFunction::LogOnePlusExp)),
-        b'c' => LineKind::FunctionLine(Function::OfNumber(NumberFunction::LnOneMinusExp)),
-        b'd' => LineKind::FunctionLine(Function::OfPair(PairFunction::LnAMinusB)),
-        b't' => LineKind::FunctionLine(Function::OfPair(PairFunction::LnErrorProbTwoTrials)),
-        b's' => LineKind::FunctionLine(Function::OfPair(PairFunction::LnSumExp)),
-        b'a' => LineKind::FunctionLine(Function::LnSumExpArray),
-        b'z' => LineKind::FunctionLine(Function::OfPair(PairFunction::LnNormalize)),
-        b'n' => LineKind::FunctionLine(Function::OfNumber(NumberFunction::LnNot)),
-        b'b' => LineKind::BuilderLine,
-        b'x' => LineKind::ListingLine,
-        _ => LineKind::UnknownLine,
-    }
+    let function = match letter {
+        b'b' => return Some(LineKind::BuilderLine),
+        b'x' => return Some(LineKind::ListingLine),
+        b'e' => Function::OfNumber(NumberFunction::Exp),
+        b'l' => Function::OfNumber(NumberFunction::Ln),
+        b'p' => Function::OfNumber(NumberFunction::LnOnePlus),
+        b'm' => Function::OfNumber(NumberFunction::ExpMinusOne),
+        b'q' => Function::OfLevel(LevelFunction::PhredToLnErrorProb),
+        b'r' => Function::OfLevel(LevelFunction::PhredToLnCorrectProb),
+        b'f' => Function::LnProbToPhred,
+        b'g' => Function::OfNumber(NumberFunction::LogOnePlusExp),
+        b'c' => Function::OfNumber(NumberFunction::LnOneMinusExp),
+        b'd' => Function::OfPair(PairFunction::LnAMinusB),
+        b't' => Function::OfPair(PairFunction::LnErrorProbTwoTrials),
+        b's' => Function::OfPair(PairFunction::LnSumExp),
+        b'a' => Function::LnSumExpArray,
+        b'z' => Function::OfPair(PairFunction::LnNormalize),
+        b'n' => Function::OfNumber(NumberFunction::LnNot),
+        _ => return None,
+    };
+    Some(LineKind::FunctionLine(function))
 }
 
 // How many bytes a line with this letter has. Where the letter is unknown, no more is read than it
 // and the space.
-pub fn line_length(letter: u8) -> usize
-    ensures value { result ≡ length_of (kind_of letter) }
+pub(crate) fn line_length(letter: u8) -> usize
+    ensures value { result ≡ length_by (kind_of letter) }
     ensures lower_bound { (2 ≤ result) × (result ≤ longest_line) }
 {
-    let kind = kind_of(letter);
-    match kind {
-        LineKind::FunctionLine(function) => 17 * arguments(function) + 19,
-        LineKind::BuilderLine => 450,
-        LineKind::ListingLine => 1292,
-        LineKind::UnknownLine => 2,
+    match kind_of(letter) {
+        Some(LineKind::FunctionLine(function)) => 17 * function.arguments() + 19,
+        Some(LineKind::BuilderLine) => 450,
+        Some(LineKind::ListingLine) => 1292,
+        None => 2,
     }
 }
 
-// How many arguments the function takes.
-pub fn arguments(function: Function) -> usize
-    ensures value { result ≡ arguments_of function }
-    ensures upper_bound { result ≤ 4 }
-{
-    match function {
-        Function::OfLevel(_) => 1,
-        Function::OfNumber(_) => 1,
-        Function::OfPair(_) => 2,
-        Function::LnSumExpArray => 4,
-        Function::LnProbToPhred => 1,
+impl Function {
+    // How many arguments the function takes.
+    pub(crate) fn arguments(self) -> usize
+        ensures value { result ≡ arguments_of self }
+        ensures upper_bound { result ≤ 4 }
+    {
+        match self {
+            Function::OfLevel(_) | Function::OfNumber(_) | Function::LnProbToPhred => 1,
+            Function::OfPair(_) => 2,
+            Function::LnSumExpArray => 4,
+        }
     }
 }

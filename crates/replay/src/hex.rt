@@ -1,40 +1,31 @@
 // Numbers in hex digits, as a line has them.
-ghost use Rattle.std.specs.Prelude.{◌≡◌};
+ghost use Rattle.std.specs.Prelude.{◌≡◌, ◌<◌, IfSome};
 ghost use Rattle.replay.specs.Hex.{digit_of, hex_of};
 
 // The number that digits write, where all of them are digits and there are at most 16.
-#[derive(Clone, Copy)]
-pub enum MaybeNumber {
-    Number(u64),
-    NoNumber,
-}
-
-pub fn hex_number(digits: &[u8]) -> MaybeNumber
+#[tactic(auto, unfolding(crate::specs::Hex::hex_from))]
+pub(crate) fn hex_number(digits: &[u8]) -> Option<u64>
     ensures { result ≡ hex_of digits.now }
 {
     if 16 < digits.len() {
-        return MaybeNumber::NoNumber;
+        return None;
     }
     let mut n: u64 = 0;
-    let mut i = 0;
-    while i < digits.len() {
-        let d = digit(digits[i]);
-        if 15 < d {
-            return MaybeNumber::NoNumber;
-        }
-        n = 16 * n + d;
-        i += 1;
+    for b in digits {
+        n = 16 * n + u64::from(digit(*b)?);
     }
-    MaybeNumber::Number(n)
+    Some(n)
 }
 
-// The value of a digit, and 16 for a byte that is none.
-pub fn digit(b: u8) -> u64
-    ensures { result ≡ digit_of b }
+// The value of a digit. Unlike `char::to_digit`, none of an upper-case letter.
+#[tactic(auto, unfolding(crate::specs::Hex::digit_of))]
+pub(crate) fn digit(b: u8) -> Option<u8>
+    ensures value { result ≡ digit_of b }
+    ensures upper_bound { IfSome result (λ d. d < 16) }
 {
     match b {
-        b'0'..=b'9' => (b - b'0') as u64,
-        b'a'..=b'f' => (b - b'a') as u64 + 10,
-        _ => 16,
+        b'0'..=b'9' => Some(b - b'0'),
+        b'a'..=b'f' => Some(b - b'a' + 10),
+        _ => None,
     }
 }

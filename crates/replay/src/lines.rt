@@ -1,15 +1,14 @@
 // What a line of the stored list says of its function, of a builder or of a listing.
 ghost use Rattle.std.specs.Prelude.{◌≡◌, ◌≤◌, length};
-ghost use Rattle.replay.specs.Lines.{field_of, no_fields, numbers_of, answer_line, line_verdict_of};
+ghost use Rattle.replay.specs.Lines.{field_of, numbers_of, answer_line, line_verdict_of};
 
 use crate::functions::{Function, LineKind};
-use crate::hex::MaybeNumber;
 use crate::{answers, builders, functions, hex, listings};
 
 // No line has more numbers.
-pub const NUMBERS: usize = 5;
+pub(crate) const NUMBERS: usize = 5;
 
-#[derive(Clone, Copy)]
+#[derive(Clone, Copy, Debug, PartialEq, Eq)]
 pub enum LineVerdict {
     // No line is left.
     End,
@@ -20,93 +19,64 @@ pub enum LineVerdict {
 }
 
 // Works the answer of a line out anew, and compares.
-pub fn judge_line(line: &[u8]) -> LineVerdict
+#[tactic(auto, unfolding(crate::specs::Lines::line_verdict_of))]
+pub(crate) fn judge_line(line: &[u8]) -> LineVerdict
     ensures { result ≡ line_verdict_of line.now }
 {
-    if line.len() == 0 {
+    let Some(&letter) = line.first() else {
         return LineVerdict::End;
-    }
-    let letter = line[0];
-    let kind = functions::kind_of(letter);
-    match kind {
-        LineKind::FunctionLine(function) => answer_line(letter, function, line),
-        LineKind::BuilderLine => builders::builder_line(letter, line),
-        LineKind::ListingLine => listings::listing_line(letter, line),
-        LineKind::UnknownLine => LineVerdict::NotAnAnswer,
-    }
-}
-
-// A line of a function's arguments and its result.
-fn answer_line(letter: u8, function: Function, line: &[u8]) -> LineVerdict
-    ensures { result ≡ answer_line letter function line.now }
-{
-    let last = functions::arguments(function);
-    let fields = numbers(line, last + 1);
-    let read = fields.numbers;
-    if !fields.formed {
-        return LineVerdict::NotAnAnswer;
-    }
-    let MaybeNumber::Number(ours) = answers::our_answer(function, read) else {
-        return LineVerdict::NotAnAnswer;
     };
-    if ours == read[last] {
-        return LineVerdict::Equal(letter);
+    let equal = match functions::kind_of(letter) {
+        Some(LineKind::FunctionLine(function)) => answer_line(function, line),
+        Some(LineKind::BuilderLine) => builders::builder_line(line),
+        Some(LineKind::ListingLine) => listings::listing_line(line),
+        None => None,
+    };
+    match equal {
+        Some(true) => LineVerdict::Equal(letter),
+        Some(false) => LineVerdict::Differs(letter),
+        None => LineVerdict::NotAnAnswer,
     }
-    LineVerdict::Differs(letter)
 }
 
-// The numbers of a line, and zeros after them, where the line is in the form.
-#[derive(Clone, Copy)]
-pub struct Fields {
-    pub formed: bool,
-    pub numbers: [u64; NUMBERS],
+// Whether the result of a line is what its function gives for the arguments, where it is such a line.
+fn answer_line(function: Function, line: &[u8]) -> Option<bool>
+    ensures { result ≡ answer_line function line.now }
+{
+    let last = function.arguments();
+    let read = numbers(line, last + 1)?;
+    let ours = answers::our_answer(function, read)?;
+    Some(ours == read[last])
 }
 
-// The form of a line: a letter, a field for each number, a newline. The fields are read from the last
-// to the first.
-fn numbers(line: &[u8], count: usize) -> Fields
+// The numbers of a line, and zeros after them, where the line is in the form: a letter, a field for each
+// number, a newline. The fields are read from the last to the first.
+#[tactic(auto, unfolding(crate::specs::Lines::numbers_of, crate::specs::Lines::fields_from))]
+fn numbers(line: &[u8], count: usize) -> Option<[u64; NUMBERS]>
     requires { count ≤ 5 }
     ensures { result ≡ numbers_of count line.now }
 {
     let end = 17 * count + 1;
-    if line.len() != end + 1 {
-        return no_fields();
+    if line.len() != end + 1 || line[end] != b'\n' {
+        return None;
     }
-    if line[end] != b'\n' {
-        return no_fields();
-    }
+    // kept: no plainer: `from_fn` of a closure that may find no field would need the array of the options first
     let mut numbers = [0; NUMBERS];
-    let mut left = count;
-    while 0 < left {
-        left -= 1;
-        let start = 17 * left + 1;
-        let MaybeNumber::Number(n) = field(&line[start..start + 17]) else {
-            return no_fields();
-        };
-        numbers[left] = n;
+    for k in (0..count).rev() {
+        let start = 17 * k + 1;
+        numbers[k] = field(&line[start..start + 17])?;
     }
-    Fields {
-        formed: true,
-        numbers,
-    }
-}
-
-fn no_fields() -> Fields
-    ensures { result ≡ no_fields }
-{
-    Fields {
-        formed: false,
-        numbers: [0; NUMBERS],
-    }
+    Some(numbers)
 }
 
 // A space and 16 digits.
-fn field(bytes: &[u8]) -> MaybeNumber
+#[tactic(auto, unfolding(crate::specs::Lines::field_of))]
+fn field(bytes: &[u8]) -> Option<u64>
     requires { length bytes.now ≡ 17 }
     ensures { result ≡ field_of bytes.now }
 {
     if bytes[0] != b' ' {
-        return MaybeNumber::NoNumber;
+        return None;
     }
-    hex::hex_number(&bytes[1..17])
+    hex::hex_number(&bytes[1..])
 }

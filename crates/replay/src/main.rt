@@ -14,7 +14,7 @@ mod listings;
 ghost use Rattle.std.specs.Prelude.{◌≡◌, ◌≤◌, length, take};
 ghost use Rattle.replay.specs.Functions.{longest_line};
 
-use counts::COUNTERS;
+use counts::{Count, Counts, NONE_YET};
 use functions::LONGEST_LINE;
 use lines::LineVerdict;
 use std::io;
@@ -23,6 +23,27 @@ use std::process::ExitCode;
 
 // A proved loop has to end, and nothing says that an input does. No stored list is this long.
 const MOST_LINES: u64 = 1_000_000;
+
+// What is counted, each with the letter of its lines, in the order in which the counts are printed.
+const COUNTED: [(&str, u8); 17] = [
+    ("exp", b'e'),
+    ("ln", b'l'),
+    ("ln_1p", b'p'),
+    ("exp_m1", b'm'),
+    ("phred_to_ln_error_prob", b'q'),
+    ("phred_to_ln_correct_prob", b'r'),
+    ("ln_prob_to_phred", b'f'),
+    ("log1pexp", b'g'),
+    ("ln_one_minus_exp", b'c'),
+    ("ln_a_minus_b", b'd'),
+    ("ln_error_prob_two_trials", b't'),
+    ("ln_sum_exp", b's'),
+    ("ln_sum_exp_array", b'a'),
+    ("ln_normalize", b'z'),
+    ("ln_not", b'n'),
+    ("builder", b'b'),
+    ("listing", b'x'),
+];
 
 // What could not be written ends it with the exit status 1.
 fn main(rt: HostRuntime) -> ExitCode {
@@ -34,28 +55,23 @@ fn main(rt: HostRuntime) -> ExitCode {
 
 // Every line of the list, and then the counts.
 fn replay<P: Print, R: Read>(rt: &P, input: &mut R) -> io::Result<()> {
-    let mut counts = [0; COUNTERS];
-    let mut lines: u64 = 0;
-    while lines < MOST_LINES {
+    let mut counts = [NONE_YET; 256];
+    for line in 1..=MOST_LINES {
         let verdict = next_line(rt, input)?;
         match verdict {
-            LineVerdict::End => {
-                break;
+            LineVerdict::End => break,
+            LineVerdict::NotAnAnswer => return println!(rt; "not an answer: line {line}"),
+            LineVerdict::Equal(_) | LineVerdict::Differs(_) => {
+                counts::count_line(&mut counts, verdict);
             }
-            LineVerdict::NotAnAnswer => {
-                return print_place(rt, lines + 1);
-            }
-            LineVerdict::Equal(_) => {}
-            LineVerdict::Differs(_) => {}
         }
-        counts::count_line(&mut counts, verdict);
-        lines += 1;
     }
     print_all(rt, &counts)
 }
 
 // Reads a line and judges it. A line that differs is written out.
 fn next_line<P: Print, R: Read>(rt: &P, input: &mut R) -> io::Result<LineVerdict> {
+    // kept: rule of the project: no heap, so a line is read into a fixed array
     let mut room = [0u8; LONGEST_LINE];
     let n = read_line(input, &mut room);
     let verdict = lines::judge_line(&room[..n]);
@@ -82,6 +98,7 @@ fn read_line<R: Read>(input: &mut R, room: &mut [u8]) -> usize
 }
 
 // Reads until the room is full, the input ends or a read fails, and answers how many bytes came.
+// kept: no plainer: `read_exact` does not say how many bytes came before the input ended
 fn read_full<R: Read>(input: &mut R, room: &mut [u8]) -> usize
     ensures bound { result ≤ length room.new }
     ensures front { result ≡ length (take result room.new) }
@@ -89,46 +106,17 @@ fn read_full<R: Read>(input: &mut R, room: &mut [u8]) -> usize
     let mut done = 0;
     while done < room.len() {
         match input.read(&mut room[done..]) {
-            Ok(0) => break,
+            Ok(0) | Err(_) => break,
             Ok(more) => done += more,
-            Err(_) => break,
         }
     }
     done
 }
 
-fn print_place<P: Print>(rt: &P, line: u64) -> io::Result<()> {
-    println!(rt; "not an answer: line {line}")
-}
-
-fn print_all<P: Print>(rt: &P, counts: &[u64; COUNTERS]) -> io::Result<()> {
-    print_counts(rt, "exp", counts, b'e')?;
-    print_counts(rt, "ln", counts, b'l')?;
-    print_counts(rt, "ln_1p", counts, b'p')?;
-    print_counts(rt, "exp_m1", counts, b'm')?;
-    print_counts(rt, "phred_to_ln_error_prob", counts, b'q')?;
-    print_counts(rt, "phred_to_ln_correct_prob", counts, b'r')?;
-    print_counts(rt, "ln_prob_to_phred", counts, b'f')?;
-    print_counts(rt, "log1pexp", counts, b'g')?;
-    print_counts(rt, "ln_one_minus_exp", counts, b'c')?;
-    print_counts(rt, "ln_a_minus_b", counts, b'd')?;
-    print_counts(rt, "ln_error_prob_two_trials", counts, b't')?;
-    print_counts(rt, "ln_sum_exp", counts, b's')?;
-    print_counts(rt, "ln_sum_exp_array", counts, b'a')?;
-    print_counts(rt, "ln_normalize", counts, b'z')?;
-    print_counts(rt, "ln_not", counts, b'n')?;
-    print_counts(rt, "builder", counts, b'b')?;
-    print_counts(rt, "listing", counts, b'x')
-}
-
-fn print_counts<P: Print>(
-    rt: &P,
-    name: &str,
-    counts: &[u64; COUNTERS],
-    letter: u8,
-) -> io::Result<()> {
-    let place = letter as usize;
-    let equal = counts[place + 256];
-    let all = counts[place];
-    println!(rt; "{name}: {equal} of {all} equal")
+fn print_all<P: Print>(rt: &P, counts: &Counts) -> io::Result<()> {
+    for (name, letter) in COUNTED {
+        let Count { all, equal } = counts[usize::from(letter)];
+        println!(rt; "{name}: {equal} of {all} equal")?;
+    }
+    Ok(())
 }

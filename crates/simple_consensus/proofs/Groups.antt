@@ -1,5 +1,7 @@
 -- Strings by their places as `consensus` treats them, and those of a set that was read. Assumes nothing.
-use mathlib.Core.Path.{◌≡◌, refl, sym, ◌∙◌, ap, subst}
+use Rattle.std.specs.Prelude.{Err, Ok}
+use Rattle.std.specs.List.{list_all}
+use mathlib.Core.Path.{◌≡◌, refl, sym, ◌∙◌, ap}
 use mathlib.Core.Bool.{true, false, not, ◌&&◌, and-false}
 use mathlib.Core.Logic.{◌⊎◌, inl, inr, ⊎_elim}
 use mathlib.Core.List.{List, [], ◌∷◌, map}
@@ -12,10 +14,10 @@ use lib.Ieee.{nan}
 use lib.ListN.{length, take, drop, get_or, length-map, length-take, length-drop}
 use lib.Seq.{length-take-le, get_or-take}
 use Rattle.words.proofs.Cases.{test, both}
-use Rattle.words.specs.Lists.{every, last_or, byte_at}
+use Rattle.words.specs.Lists.{last_or, byte_at}
 use Rattle.refusals.specs.declared.Refusal.{Refusal}
 use Rattle.refusals.specs.declared.Refusal.TheVariants.{NoStrings, LengthsDiffer}
-use Rattle.refusals.specs.Result.{Result, refused, accepted, judged}
+use Rattle.refusals.specs.Result.{Result, judged, map_ok}
 use Rattle.rate_tables.specs.declared.adjusted.AdjustedEntry.{AdjustedEntry}
 use Rattle.rate_tables.specs.Adjusted.{adjusted_tables}
 use Rattle.umi_column.specs.Calls.{named_byte}
@@ -25,13 +27,12 @@ use Rattle.umi_verdicts.specs.FamilyVerdicts.{verdict_within, verdict_at}
 use Rattle.umi_family.specs.Family.{builder_by, bytes_by, last_by}
 use Rattle.umi_groups.specs.Groups.{lengths_alike, entry_at, family_at}
 use Rattle.umi_groups.proofs.Groups.{none_empty, some_empty, first_fits, first_found_lem, group_none, group_family, group_first}
+use Rattle.umi_groups.proofs.Mapped.{map_refused}
 use Rattle.umi_rows.proofs.RowLoops.{every_at, fit_so}
-use Rattle.string_set.specs.declared.Reading.{Reading}
-use Rattle.string_set.specs.declared.Reading.TheVariants.{Refused, Strings}
 use Rattle.string_set.specs.StringSet.{read_set}
-use Rattle.string_set.specs.Places.{set_reading_of}
+use Rattle.string_set.specs.Places.{places_after}
 use Rattle.string_set.proofs.Strings.{string_at}
-use Rattle.string_set.proofs.Placed.{Placed, Ensured, placed}
+use Rattle.string_set.proofs.Placed.{Placed, placed}
 use Rattle.simple_consensus.specs.declared.caller.SimpleConsensusCaller.{SimpleConsensusCaller}
 use Rattle.simple_consensus.specs.Strings.{first_of, columns_of, alike, is_family}
 use Rattle.simple_consensus.specs.Verdicts.{family_verdict, consensus_verdict, umis_verdict, call_verdict}
@@ -71,7 +72,7 @@ module _ (trim : ℕ) (s : List ℕ) where
       (λ t. ne_eqb (byte_at s p - trim) (byte_at s q - trim) (λ e. eqb-false (byte_at s p) (byte_at s q) t (omega (arith, e, g.1, h.1))) ∙ sym t))
 
   alike_from : (q : ℕ) (ps : List ℕ) → Whole q → Each Whole ps
-      → every (λ t. eqb (length t) (length (trimmed_at trim s q))) (strings_at trim s ps) ≡ every (λ p. eqb (byte_at s p) (byte_at s q)) ps
+      → list_all (λ t. eqb (length t) (length (trimmed_at trim s q))) (strings_at trim s ps) ≡ list_all (λ p. eqb (byte_at s p) (byte_at s q)) ps
   alike_from q [] h g = refl
   alike_from q (p ∷ ps) h g = rw (same_length p q g.0 h, alike_from q ps h g.1)
 
@@ -81,11 +82,11 @@ module _ (trim : ℕ) (s : List ℕ) where
   each_alike (p ∷ ps) g = alike_from p (p ∷ ps) g.0 g
 
   -- strings with one length byte are rows of one width
-  rows_from : (q : ℕ) (ps : List ℕ) → every (λ p. eqb (byte_at s p) (byte_at s q)) ps ≡ true → strings_at trim s ps ≡ rows_at (byte_at s q - trim) s ps
+  rows_from : (q : ℕ) (ps : List ℕ) → list_all (λ p. eqb (byte_at s p) (byte_at s q)) ps ≡ true → strings_at trim s ps ≡ rows_at (byte_at s q - trim) s ps
   unfolding trimmed_at
   rows_from q [] h = refl
   rows_from q (p ∷ ps) h =
-      let k = both (eqb (byte_at s p) (byte_at s q)) (every (λ p. eqb (byte_at s p) (byte_at s q)) ps) h in
+      let k = both (eqb (byte_at s p) (byte_at s q)) (list_all (λ p. eqb (byte_at s p) (byte_at s q)) ps) h in
       rw (eqb-true (byte_at s p) (byte_at s q) k.0, rows_from q ps k.1)
 
 -- ---- the strings at all places
@@ -108,13 +109,13 @@ module _ (trim : ℕ) (s ps : List ℕ) (g : Trimmed trim s ps) where
     strings_rows = rows_from trim s (byte_at ps 0) ps same
 
     pub strings_fit : RowsFit (byte_at s (byte_at ps 0) - trim) s ps
-    strings_fit = (
-      h,
-      g.0,
-      λ k l.
+    strings_fit = record {
+      some = h;
+      few = g.0;
+      inside = λ k l.
           let e : byte_at s (byte_at ps k) ≡ byte_at s (byte_at ps 0) = eqb-true _ _ (every_at (λ p. eqb (byte_at s p) (byte_at s (byte_at ps 0))) ps k same l) in
-          omega (arith, e, (g.1 k l).0),
-    )
+          omega (arith, e, (g.1 k l).0);
+    }
 
 -- ---- what is said of a list of strings, by cases
 module _ (strings : List (List ℕ)) where
@@ -132,7 +133,7 @@ module _ (c : SimpleConsensusCaller) (strings : List (List ℕ)) where
   unfolding consensus_verdict found
   said_family h e = rw (is_family_lem strings h e)
 
-  pub said_first : ((length strings ≤ 1) ⊎ (alike strings ≡ false)) → consensus_of c strings ≡ accepted (first_found c strings)
+  pub said_first : ((length strings ≤ 1) ⊎ (alike strings ≡ false)) → consensus_of c strings ≡ Ok (first_found c strings)
   unfolding consensus_verdict found
   said_first h = rw (no_family strings h)
 
@@ -140,11 +141,11 @@ module _ (c : SimpleConsensusCaller) (strings : List (List ℕ)) where
   unfolding umis_verdict
   umis_alike e = rw e
 
-  pub umis_unlike : alike strings ≡ false → umis_of c strings ≡ refused LengthsDiffer
+  pub umis_unlike : alike strings ≡ false → umis_of c strings ≡ Err LengthsDiffer
   unfolding umis_verdict
   umis_unlike e = rw e
 
-  pub call_none : length strings ≡ 0 → call_consensus_of c strings ≡ refused NoStrings
+  pub call_none : length strings ≡ 0 → call_consensus_of c strings ≡ Err NoStrings
   unfolding call_verdict
   call_none h = rw (none_empty strings h)
 
@@ -241,31 +242,25 @@ whole_string s p =
     let e : byte_at s p - 0 ≡ byte_at s p = omega arith in
     rw e
 
--- the strings are where the first n places say, and none is shortened
-abbrev Read : List ℕ → List ℕ → Result (List (List ℕ)) → Reading → Type 0
-Read s ps t (Refused r) = t ≡ refused r
-Read s ps t (Strings n) = (t ≡ accepted (strings_at 0 s (take n ps))) × (n ≤ length ps) × Trimmed 0 s (take n ps)
-
 module _ (s ps : List ℕ) where
   map_whole : (qs : List ℕ) → map (string_at s) qs ≡ strings_at 0 s qs
   map_whole [] = refl
   map_whole (q ∷ qs) = rw (whole_string s q, map_whole qs)
 
-  set_read : (t : Result (List (List ℕ))) → Placed s t ps → Read s ps t (set_reading_of t)
-  set_read (refused r) h = refl
-  set_read (accepted l) h =
-      let n = length l in
-      let size : length (take n ps) ≡ n = sym (length-map (take n ps) (string_at s)) ∙ ap (λ (j : List (List ℕ)). length j) h.0 in
+  -- the strings are where the first n places say, and none is shortened
+  strings_of : (n : ℕ) (t : Result (List (List ℕ))) → Placed s t ps → Ok n ≡ map_ok length t → (t ≡ Ok (strings_at 0 s (take n ps))) × (n ≤ length ps) × Trimmed 0 s (take n ps)
+  strings_of n (Err r) h e = absurd cc
+  strings_of n (Ok l) h e =
+      let same : n ≡ length l = cc in
+      let size : length (take n ps) ≡ n = rw same (sym (length-map (take (length l) ps) (string_at s)) ∙ ap (λ (j : List (List ℕ)). length j) h.0) in
       let whole : (k : ℕ) → k < length (take n ps) → byte_at (take n ps) k + 1 + byte_at s (byte_at (take n ps) k) ≤ length s =
       λ k i. rw (get_or-take n ps k 0 (omega arith)) (h.2 k (omega arith)) in
-      (ap accepted (sym (sym (map_whole (take n ps)) ∙ h.0)), omega (arith, sym (length-take n ps) ∙ size), (omega (arith, h.1), λ k i. (whole k i, omega arith)))
+      (ap Ok (sym (sym (map_whole (take n ps)) ∙ (rw same h.0))), omega (arith, sym (length-take n ps) ∙ size), (omega (arith, h.1), λ k i. (whole k i, omega arith)))
 
-  module _ (before : List ℕ) (g : Reading) (h : Ensured s before ps g) where
-    read_said : (q : Reading) → g ≡ q → Read s ps (read_set s) q
-    read_said q e = subst (Read s ps (read_set s)) (sym h.0 ∙ e) (set_read (read_set s) (placed s before ps g h))
+  pub read_strings : (n : ℕ) (before : List ℕ) → n ≤ 255 → Ok n ≡ map_ok length (read_set s) → ps ≡ places_after (read_set s) before
+      → (read_set s ≡ Ok (strings_at 0 s (take n ps))) × (n ≤ length ps) × Trimmed 0 s (take n ps)
+  read_strings n before few e h = strings_of n (read_set s) (placed s n before ps few e h) e
 
-    pub read-refused : (r : Refusal) → g ≡ Refused r → read_set s ≡ refused r
-    read-refused r e = read_said (Refused r) e
-
-    pub read_strings : (n : ℕ) → g ≡ Strings n → (read_set s ≡ accepted (strings_at 0 s (take n ps))) × (n ≤ length ps) × Trimmed 0 s (take n ps)
-    read_strings n e = read_said (Strings n) e
+-- and where it is refused
+pub read_refused : (s : List ℕ) (r : Refusal) → Err r ≡ map_ok length (read_set s) → read_set s ≡ Err r
+read_refused s r e = map_refused length (read_set s) r (sym e)

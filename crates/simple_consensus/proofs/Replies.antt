@@ -1,73 +1,52 @@
 -- What the functions reply of what was found, and of a set's bytes. Assumes nothing.
-use mathlib.Core.Path.{◌≡◌, refl, ◌∙◌, ap}
-use mathlib.Core.List.{List}
-use Prim.Native.Nat.{ℕ, ◌≤◌, ◌<◌}
-use lib.ListN.{length}
+use Rattle.std.specs.Prelude.{Err, Ok, IfOk}
+use Rattle.std.proofs.Common.{◌≡◌, ℕ, List, length, ◌≤◌, ◌<◌, ◌∙◌, ap}
 use Rattle.refusals.specs.declared.Refusal.{Refusal}
 use Rattle.refusals.specs.declared.Refusal.TheVariants.{NoStrings}
-use Rattle.refusals.specs.Refusals.{number_of, number_in}
-use Rattle.refusals.specs.Result.{Result, refused, accepted, and_then}
+use Rattle.refusals.specs.Refusals.{number_in}
+use Rattle.refusals.specs.Result.{Result, and_then, map_ok}
+use Rattle.refusals.proofs.Numbers.{number_in-map_ok}
 use Rattle.string_set.specs.StringSet.{read_set}
-use Rattle.umi_groups.specs.declared.answers.Group.{Group}
-use Rattle.umi_groups.specs.Found.{Found, room_for, flagged_of, found_length, builder_after, group_of}
-use Rattle.simple_consensus.specs.declared.answers.Answer.{Answer}
+use Rattle.umi_groups.specs.Found.{Found, room_for, found_length}
 use Rattle.simple_consensus.specs.declared.caller.SimpleConsensusCaller.{SimpleConsensusCaller}
-use Rattle.simple_consensus.specs.declared.group.GroupConsensus.{GroupConsensus}
-use Rattle.simple_consensus.specs.Consensus.{with_builder, default_caller, umis_of}
-use Rattle.simple_consensus.specs.Answers.{call_consensus_in, consensus_umis_in, answer_of, unflagged_of, answer_number, answer_length, caller_after, group_consensus_of}
+use Rattle.simple_consensus.specs.Consensus.{default_caller, umis_of}
+use Rattle.simple_consensus.specs.Answers.{call_consensus_in, consensus_umis_in}
 use Rattle.simple_consensus.proofs.Groups.{call_none, call_some}
 
--- an answer of any kind has the number of what was found
-pub numbered : {A X : Type 0} (say : Result A → X) (number : X → ℕ) → ((r : Refusal) → number (say (refused r)) ≡ number_of r)
-    → ((a : A) → number (say (accepted a)) ≡ 0) → (t : Result A) → number (say t) ≡ number_in t
-numbered say number below given (refused r) = below r
-numbered say number below given (accepted a) = given a
+-- what a function replies of a string that was found, whose length `size` reads: the reply, which is short, and its number
+pub record Replied {B : Type 0} (f : Found → B) (size : B → ℕ) (t : Result Found) (r : Result B) : Type 0 where
+  pub answer : r ≡ map_ok f t
+  pub short : IfOk r (λ b. size b ≤ 255)
+  pub number : number_in r ≡ number_in t
 
--- an answer without its flag
-unflagged_of_lem : (t : Result Found) → unflagged_of (flagged_of t) ≡ answer_of t
-unflagged_of_lem (refused r) = refl
-unflagged_of_lem (accepted f) = refl
+short_by : {B : Type 0} (f : Found → B) (size : B → ℕ) → ((x : Found) → size (f x) ≡ length x.text) → (t : Result Found) → found_length t ≤ 255
+    → IfOk (map_ok f t) (λ b. size b ≤ 255)
+short_by f size same (Err r) few = tt
+short_by f size same (Ok x) few = rw (same x) few
 
-answer_length_lem : (t : Result Found) → answer_length (answer_of t) ≡ found_length t
-answer_length_lem (refused r) = refl
-answer_length_lem (accepted f) = refl
-
--- by what a group gave
-pub replied : (c : SimpleConsensusCaller) (t : Result Found) (g : GroupConsensus) → g ≡ group_consensus_of c t → found_length t ≤ 255 → (x : Answer) → x ≡ unflagged_of g.answer
-    → (x ≡ answer_of t) × ((answer_length x ≤ 255) × (answer_number x ≡ number_in t))
-replied c t g e few x h =
-    let same : x ≡ answer_of t = h ∙ ap (λ (k : GroupConsensus). unflagged_of k.answer) e ∙ unflagged_of_lem t in
-    (same, rw same (rw (answer_length_lem t) few, numbered answer_of answer_number (λ r. refl) (λ f. refl) t))
-
--- ---- what a group gives: its answer, and the caller with its builder
-caller_after_lem : (c : SimpleConsensusCaller) (t : Result Found) → with_builder (builder_after c.builder t) c ≡ caller_after c t
-unfolding with_builder
-caller_after_lem c (refused r) = refl
-caller_after_lem c (accepted f) = refl
-
-pub group_given : (c : SimpleConsensusCaller) (t : Result Found) (g : Group) → g ≡ group_of c.builder t → (d : SimpleConsensusCaller) → d ≡ with_builder g.builder c
-    → ◌≡◌ {A = GroupConsensus} (record { caller = d; answer = g.answer }) (group_consensus_of c t)
-group_given c t g e d h = rw (h, e) (λ i. record { caller = caller_after_lem c t i; answer = flagged_of t })
+pub replied : {B : Type 0} (f : Found → B) (size : B → ℕ) → ((x : Found) → size (f x) ≡ length x.text) → (t : Result Found) → found_length t ≤ 255
+    → (r : Result B) → r ≡ map_ok f t → Replied f size t r
+replied f size same t few r e = record { answer = e; short = rw e (short_by f size same t few); number = ap number_in e ∙ number_in-map_ok f t }
 
 -- ---- of a set's bytes: refused where the set is, and else of its strings
 module _ (s out : List ℕ) where
-  pub umis_in_refused : (r : Refusal) → read_set s ≡ refused r → consensus_umis_in s out ≡ refused r
+  pub umis_in_refused : (r : Refusal) → read_set s ≡ Err r → consensus_umis_in s out ≡ Err r
   unfolding consensus_umis_in
   umis_in_refused r e = rw e
 
-  pub umis_in : (l : List (List ℕ)) → read_set s ≡ accepted l → consensus_umis_in s out ≡ and_then (umis_of default_caller l) (room_for out)
+  pub umis_in : (l : List (List ℕ)) → read_set s ≡ Ok l → consensus_umis_in s out ≡ and_then (umis_of default_caller l) (room_for out)
   unfolding consensus_umis_in
   umis_in l e = rw e
 
   module _ (c : SimpleConsensusCaller) where
-    pub call_in_refused : (r : Refusal) → read_set s ≡ refused r → call_consensus_in c s out ≡ refused r
+    pub call_in_refused : (r : Refusal) → read_set s ≡ Err r → call_consensus_in c s out ≡ Err r
     unfolding call_consensus_in
     call_in_refused r e = rw e
 
-    pub call_in_none : (l : List (List ℕ)) → read_set s ≡ accepted l → length l ≡ 0 → call_consensus_in c s out ≡ refused NoStrings
+    pub call_in_none : (l : List (List ℕ)) → read_set s ≡ Ok l → length l ≡ 0 → call_consensus_in c s out ≡ Err NoStrings
     unfolding call_consensus_in
     call_in_none l e h = rw (e, call_none c l h)
 
-    pub call_in : (l : List (List ℕ)) → read_set s ≡ accepted l → 0 < length l → call_consensus_in c s out ≡ and_then (umis_of c l) (room_for out)
+    pub call_in : (l : List (List ℕ)) → read_set s ≡ Ok l → 0 < length l → call_consensus_in c s out ≡ and_then (umis_of c l) (room_for out)
     unfolding call_consensus_in
     call_in l e h = rw (e, call_some c l h)

@@ -1,7 +1,8 @@
 -- The consensus of a list of strings.
+use Rattle.std.specs.List.{list_any}
 use Rattle.std.specs.Prelude.{ℕ, not, List, map, length}
 use Rattle.std.specs.Prelude.{if◌then◌else◌}
-use Rattle.words.specs.Lists.{any, last_or}
+use Rattle.words.specs.Lists.{last_or}
 use Rattle.refusals.specs.Result.{Result, judged}
 use Rattle.base_builder.specs.declared.builder.ConsensusBaseBuilder.{ConsensusBaseBuilder}
 use Rattle.base_builder.specs.Builder.{new_at}
@@ -48,7 +49,7 @@ consensus_byte c column = column_byte c.error_rate_pre_labeling.0 column (builde
 unfoldable pub family_found : SimpleConsensusCaller → ℕ → List (List ℕ) → Found
 family_found c width strings =
     let text = map (consensus_byte c) (columns_of width strings) in
-    record { text = text; had_errors = any (differs_from text) strings; builder = last_or c.builder (map (builder_at c) (columns_of width strings)) }
+    record { text = text; had_errors = list_any (differs_from text) strings; builder = last_or c.builder (map (builder_at c) (columns_of width strings)) }
 
 -- of other strings: the first one, with no error where there is at most one, and the builder as it was
 unfoldable pub first_found : SimpleConsensusCaller → List (List ℕ) → Found

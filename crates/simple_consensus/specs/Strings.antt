@@ -1,7 +1,8 @@
 -- Lists of strings: their columns, and what is asked of them.
+use Rattle.std.specs.List.{list_all}
 use Rattle.std.specs.Prelude.{ℕ, Bool, ◌&&◌, List, [], ◌∷◌, map, ltb, eqb, length}
 use Rattle.words.specs.Lists.{listed}
-use Rattle.words.specs.Lists.{every, byte_at}
+use Rattle.words.specs.Lists.{byte_at}
 
 -- the first string, an empty one where there is none
 abbrev pub first_of : List (List ℕ) → List ℕ
@@ -18,7 +19,7 @@ columns_of width strings = listed (column_of strings) 0 width
 
 -- all as long as the first
 unfoldable pub alike : List (List ℕ) → Bool
-alike strings = every (λ t. eqb (length t) (length (first_of strings))) strings
+alike strings = list_all (λ t. eqb (length t) (length (first_of strings))) strings
 
 -- a family: two or more strings of equal length
 unfoldable pub is_family : List (List ℕ) → Bool

@@ -1,20 +1,21 @@
 // The caller of a set whose strings have one length.
-ghost use Rattle.std.specs.Prelude.{◌≡◌, ◌≤◌};
+// kept: no plainer: what is read and the buffer that is written are two borrows, which a struct would only join
+ghost use Rattle.std.specs.Prelude.{◌≡◌, ◌≤◌, IfOk};
 ghost use Rattle.refusals.specs.Refusals.{number_in};
+ghost use Rattle.refusals.specs.Result.{map_ok};
 ghost use Rattle.umi_column.specs.Dna.{is_dna_base};
 ghost use Rattle.umi_groups.specs.Found.{found_length, buffer_after};
 ghost use Rattle.simple_consensus.specs.Consensus.{caller_at, default_caller};
-ghost use Rattle.simple_consensus.specs.Answers.{call_consensus_in, consensus_umis_in, answer_of, answer_number, answer_length, caller_after, group_consensus_of};
+ghost use Rattle.simple_consensus.specs.Answers.{call_consensus_in, consensus_umis_in, consensus_of_found, length_of_found, group_consensus_of};
 
-use crate::answers::{Answer, unflagged};
-use crate::group::{GroupConsensus, alike_consensus, refused_consensus};
+use crate::group::{GroupConsensus, alike_consensus};
 use base_builder::ConsensusBaseBuilder;
 use phred::PhredScore;
 use refusals::Refusal;
-use string_set::{Reading, read_places};
+use string_set::read_places;
 
 // Keeps no tables: those of its rates are meant.
-#[derive(Clone, Copy)]
+#[derive(Clone, Copy, Debug, PartialEq)]
 pub struct SimpleConsensusCaller {
     pub builder: ConsensusBaseBuilder,
     pub error_rate_pre_labeling: PhredScore,
@@ -23,11 +24,11 @@ pub struct SimpleConsensusCaller {
     pub q_error: PhredScore,
 }
 
-// The caller, unchanged where it refuses, and its answer.
-#[derive(Clone, Copy)]
+// The caller afterwards, and how long the string in the buffer is.
+#[derive(Clone, Copy, Debug, PartialEq)]
 pub struct Consensus {
     pub caller: SimpleConsensusCaller,
-    pub answer: Answer,
+    pub length: usize,
 }
 
 impl SimpleConsensusCaller {
@@ -69,57 +70,51 @@ impl SimpleConsensusCaller {
         umi_column::is_dna_base(b)
     }
 
-    // The consensus of a set, into the buffer.
-    pub fn call_consensus(self, set: &[u8], out: &mut [u8]) -> Consensus
-        ensures answer { result.answer ≡ answer_of (call_consensus_in self set.now out.old) }
-        ensures caller { result.caller ≡ caller_after self (call_consensus_in self set.now out.old) }
+    // The consensus of a set, into the buffer. A refusal leaves it.
+    pub fn call_consensus(self, set: &[u8], out: &mut [u8]) -> Result<Consensus, Refusal>
+        ensures answer { result ≡ map_ok (consensus_of_found self) (call_consensus_in self set.now out.old) }
         ensures lent { out.new ≡ buffer_after out.old (call_consensus_in self set.now out.old) }
-        ensures short { answer_length result.answer ≤ 255 }
-        ensures number { answer_number result.answer ≡ number_in (call_consensus_in self set.now out.old) }
+        ensures short { IfOk result (λ given. given.length ≤ 255) }
+        ensures number { number_in result ≡ number_in (call_consensus_in self set.now out.old) }
     {
-        let called = call_set(self, set, out);
-        let caller = called.caller;
-        let answer = called.answer;
-        Consensus {
-            caller,
-            answer: unflagged(answer),
-        }
+        let given = call_set(self, set, out)?;
+        Ok(Consensus {
+            caller: given.caller,
+            length: given.length,
+        })
     }
 }
 
 // The same with the flag.
-fn call_set(caller: SimpleConsensusCaller, set: &[u8], out: &mut [u8]) -> GroupConsensus
-    ensures group { result ≡ group_consensus_of caller (call_consensus_in caller set.now out.old) }
+fn call_set(
+    caller: SimpleConsensusCaller,
+    set: &[u8],
+    out: &mut [u8],
+) -> Result<GroupConsensus, Refusal>
+    ensures group { result ≡ map_ok (group_consensus_of caller) (call_consensus_in caller set.now out.old) }
     ensures lent { out.new ≡ buffer_after out.old (call_consensus_in caller set.now out.old) }
     ensures few { found_length (call_consensus_in caller set.now out.old) ≤ 255 }
 {
+    // kept: rule of the project: no heap, and `read` of a set is slower
     let mut places = [0; 255];
-    match read_places(set, &mut places) {
-        Reading::Refused(r) => refused_consensus(caller, r),
-        Reading::Strings(n) => {
-            if n == 0 {
-                return refused_consensus(caller, Refusal::NoStrings);
-            }
-            alike_consensus(caller, set, &places[..n], out)
-        }
+    let count = read_places(set, &mut places)?;
+    if count == 0 {
+        return Err(Refusal::NoStrings);
     }
+    alike_consensus(caller, set, &places[..count], out)
 }
 
-// The consensus of a set at the defaults. Of no strings it is the empty one.
-pub fn consensus_umis(set: &[u8], out: &mut [u8]) -> Answer
-    ensures answer { result ≡ answer_of (consensus_umis_in set.now out.old) }
+// How long the consensus of a set at the defaults is, into the buffer. Of no strings it is the empty one.
+pub fn consensus_umis(set: &[u8], out: &mut [u8]) -> Result<usize, Refusal>
+    ensures answer { result ≡ map_ok length_of_found (consensus_umis_in set.now out.old) }
     ensures lent { out.new ≡ buffer_after out.old (consensus_umis_in set.now out.old) }
-    ensures short { answer_length result ≤ 255 }
-    ensures number { answer_number result ≡ number_in (consensus_umis_in set.now out.old) }
+    ensures short { IfOk result (λ length. length ≤ 255) }
+    ensures number { number_in result ≡ number_in (consensus_umis_in set.now out.old) }
 {
+    // kept: rule of the project: no heap, and `read` of a set is slower
     let mut places = [0; 255];
-    match read_places(set, &mut places) {
-        Reading::Refused(r) => Answer::Refused(r),
-        Reading::Strings(n) => {
-            let caller = SimpleConsensusCaller::default();
-            let called = alike_consensus(caller, set, &places[..n], out);
-            let answer = called.answer;
-            unflagged(answer)
-        }
-    }
+    let count = read_places(set, &mut places)?;
+    let caller = SimpleConsensusCaller::default();
+    let given = alike_consensus(caller, set, &places[..count], out)?;
+    Ok(given.length)
 }

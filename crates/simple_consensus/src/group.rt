@@ -1,72 +1,48 @@
 // Groups of strings, at places of a set, by a caller.
 ghost use Rattle.std.specs.Prelude.{◌≡◌, ◌≤◌};
-ghost use Rattle.refusals.specs.Result.{refused, and_then};
+ghost use Rattle.refusals.specs.Result.{and_then, map_ok};
 ghost use Rattle.umi_groups.specs.Found.{room_for, found_length, buffer_after};
-ghost use Rattle.simple_consensus.specs.Consensus.{with_builder, umis_of};
+ghost use Rattle.simple_consensus.specs.Consensus.{umis_of};
 ghost use Rattle.simple_consensus.specs.Answers.{group_consensus_of};
 ghost use Rattle.simple_consensus.specs.Places.{Trimmed, strings_at, group_by};
 
 use crate::caller::SimpleConsensusCaller;
-use base_builder::ConsensusBaseBuilder;
 use refusals::Refusal;
-use umi_groups::{FlaggedAnswer, alike, consensus_group};
+use umi_groups::{Strings, consensus_group};
 
-// The caller, unchanged where it refuses, and its answer.
-#[derive(Clone, Copy)]
+// The caller afterwards, how long the string in the buffer is, and whether a string differs from it.
+#[derive(Clone, Copy, Debug, PartialEq)]
 pub struct GroupConsensus {
     pub caller: SimpleConsensusCaller,
-    pub answer: FlaggedAnswer,
+    pub length: usize,
+    pub had_errors: bool,
 }
 
-// The same caller with another builder.
-fn with_builder(
-    caller: SimpleConsensusCaller,
-    builder: ConsensusBaseBuilder,
-) -> SimpleConsensusCaller
-    ensures { result ≡ with_builder builder caller }
-{
-    let pre = caller.error_rate_pre_labeling;
-    let post = caller.error_rate_post_labeling;
-    let q = caller.q_error;
-    SimpleConsensusCaller {
-        builder,
-        error_rate_pre_labeling: pre,
-        error_rate_post_labeling: post,
-        q_error: q,
-    }
-}
-
-pub(crate) fn refused_consensus(caller: SimpleConsensusCaller, refusal: Refusal) -> GroupConsensus
-    ensures { result ≡ group_consensus_of caller (refused refusal) }
-{
-    GroupConsensus {
-        caller,
-        answer: FlaggedAnswer::Refused(refusal),
-    }
-}
-
-// As `consensus` treats them, without their last `trim` bytes.
+// As `consensus` treats them.
 pub fn group_consensus(
     caller: SimpleConsensusCaller,
-    set: &[u8],
-    places: &[usize],
-    trim: usize,
+    strings: &Strings,
     out: &mut [u8],
-) -> GroupConsensus
-    ensures group { result ≡ group_consensus_of caller (and_then (group_by caller trim set.now places.now) (room_for out.old)) }
-    ensures lent { out.new ≡ buffer_after out.old (and_then (group_by caller trim set.now places.now) (room_for out.old)) }
-    ensures few { found_length (group_by caller trim set.now places.now) ≤ 255 }
+) -> Result<GroupConsensus, Refusal>
+    ensures group { result ≡ map_ok (group_consensus_of caller) (and_then (group_by caller strings.now.trim strings.now.set.now strings.now.places.now) (room_for out.old)) }
+    ensures lent { out.new ≡ buffer_after out.old (and_then (group_by caller strings.now.trim strings.now.set.now strings.now.places.now) (room_for out.old)) }
+    ensures few { found_length (group_by caller strings.now.trim strings.now.set.now strings.now.places.now) ≤ 255 }
 {
-    let builder = caller.builder;
-    let post = caller.error_rate_post_labeling;
-    let q = caller.q_error;
-    let group = consensus_group(builder, post, q, set, places, trim, out);
-    let answer = group.answer;
-    let after = group.builder;
-    GroupConsensus {
-        caller: with_builder(caller, after),
-        answer,
-    }
+    let group = consensus_group(
+        caller.builder,
+        caller.error_rate_post_labeling,
+        caller.q_error,
+        strings,
+        out,
+    )?;
+    Ok(GroupConsensus {
+        caller: SimpleConsensusCaller {
+            builder: group.builder,
+            ..caller
+        },
+        length: group.length,
+        had_errors: group.had_errors,
+    })
 }
 
 // Strings of unequal lengths are refused; the others go the way of `consensus`.
@@ -75,14 +51,19 @@ pub(crate) fn alike_consensus(
     set: &[u8],
     places: &[usize],
     out: &mut [u8],
-) -> GroupConsensus
+) -> Result<GroupConsensus, Refusal>
     requires { Trimmed 0 set.now places.now }
-    ensures group { result ≡ group_consensus_of caller (and_then (umis_of caller (strings_at 0 set.now places.now)) (room_for out.old)) }
+    ensures group { result ≡ map_ok (group_consensus_of caller) (and_then (umis_of caller (strings_at 0 set.now places.now)) (room_for out.old)) }
     ensures lent { out.new ≡ buffer_after out.old (and_then (umis_of caller (strings_at 0 set.now places.now)) (room_for out.old)) }
     ensures few { found_length (umis_of caller (strings_at 0 set.now places.now)) ≤ 255 }
 {
-    if !alike(set, places) {
-        return refused_consensus(caller, Refusal::LengthsDiffer);
+    let strings = Strings {
+        set,
+        places,
+        trim: 0,
+    };
+    if !strings.are_alike() {
+        return Err(Refusal::LengthsDiffer);
     }
-    group_consensus(caller, set, places, 0, out)
+    group_consensus(caller, &strings, out)
 }

@@ -2,10 +2,8 @@
 // and the answer goes into a borrowed buffer.
 #![tactic(auto)]
 
-mod answers;
 mod caller;
 mod group;
 
-pub use answers::Answer;
 pub use caller::{Consensus, SimpleConsensusCaller, consensus_umis};
 pub use group::{GroupConsensus, group_consensus};

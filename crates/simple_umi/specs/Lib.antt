@@ -1,3 +1,2 @@
 pub mod Duplex
 pub mod Answers
-pub mod Pairs

@@ -2,11 +2,8 @@
 // and by strands. A set is borrowed in its file form, and the answer goes into a borrowed buffer.
 #![tactic(auto)]
 
-mod answers;
 mod duplex;
 mod umi_caller;
 
-pub use answers::DuplexAnswer;
-pub use simple_consensus::{Answer, Consensus, SimpleConsensusCaller, consensus_umis};
+pub use simple_consensus::{Consensus, SimpleConsensusCaller, consensus_umis};
 pub use umi_caller::{DuplexConsensus, FlaggedConsensus, SimpleUmiConsensusCaller};
-pub use umi_groups::FlaggedAnswer;

@@ -1,4 +1,6 @@
 -- What is answered to every list of strings. Assumes nothing.
+use Rattle.std.specs.Prelude.{Err, Ok}
+use Rattle.std.specs.List.{list_any}
 use mathlib.Core.Path.{◌≡◌, refl, sym, ◌∙◌, ap}
 use mathlib.Core.Bool.{Bool, true, false, not}
 use mathlib.Core.Logic.{inl, inr}
@@ -10,11 +12,11 @@ use borrow.Author.Tests.{eqb-false, lt-ltb}
 use lib.Dec.{ltb, eqb}
 use lib.ListN.{length}
 use Rattle.words.proofs.Cases.{test, clash}
-use Rattle.words.specs.Lists.{any, last_or, same_bytes, byte_at}
+use Rattle.words.specs.Lists.{last_or, same_bytes, byte_at}
 use Rattle.words.proofs.Tests.{any_by_failed}
 use Rattle.lent_bytes.proofs.Same.{same_self, same_lengths, same_equal}
 use Rattle.refusals.specs.declared.Refusal.{Refusal}
-use Rattle.refusals.specs.Result.{Result, refused, accepted}
+use Rattle.refusals.specs.Result.{Result}
 use Rattle.words.specs.Lists.{listed}
 use Rattle.words.proofs.Listed.{listed_length, level_at}
 use Rattle.base_builder.specs.declared.builder.ConsensusBaseBuilder.{ConsensusBaseBuilder}
@@ -65,7 +67,7 @@ module _ (c : SimpleConsensusCaller) (strings : List (List ℕ)) where
   family_byte : is_family strings ≡ true → (k : ℕ) → k < length (first_of strings) → byte_at (found c strings).text k ≡ consensus_byte c (column_of strings k)
   family_byte h k l = rw (family_text h) (level_at (λ j. consensus_byte c (column_of strings j)) 0 (length (first_of strings)) k l)
 
-  family_flag : is_family strings ≡ true → (found c strings).had_errors ≡ any (differs_from (found c strings).text) strings
+  family_flag : is_family strings ≡ true → (found c strings).had_errors ≡ list_any (differs_from (found c strings).text) strings
   unfolding found family_found
   family_flag h = rw h
 
@@ -80,7 +82,7 @@ unlike_differs : (first t : List ℕ) → eqb (length t) (length first) ≡ fals
 unlike_differs first t h = ap not (same_lengths t first (eqb-false (length t) (length first) h))
 
 -- where there is no family, lengths that differ are the only difference from the first string
-other_flag : (strings : List (List ℕ)) → is_family strings ≡ false → not (alike strings) ≡ any (differs_from (first_of strings)) strings
+other_flag : (strings : List (List ℕ)) → is_family strings ≡ false → not (alike strings) ≡ list_any (differs_from (first_of strings)) strings
 unfolding is_family alike
 other_flag [] h = refl
 other_flag (t ∷ []) h = rw (one_alike t, same_self t)
@@ -90,38 +92,38 @@ other_flag (t ∷ u ∷ ts) h =
     rw unlike (sym (any_by_failed (λ x. eqb (length x) (length t)) (differs_from t) (unlike_differs t) (t ∷ u ∷ ts) unlike))
 
 -- one of a list passes the test
-any_of : {A : Type 0} (p : A → Bool) (before after : List A) (x : A) → p x ≡ true → any p (before ++ (x ∷ after)) ≡ true
+any_of : {A : Type 0} (p : A → Bool) (before after : List A) (x : A) → p x ≡ true → list_any p (before ++ (x ∷ after)) ≡ true
 any_of p [] after x h = rw h
 any_of p (y ∷ before) after x h = test (p y) (λ e. rw e) (λ e. rw e (any_of p before after x h))
 
 -- ---- what is answered
 
 is_accepted : {A : Type 0} → Result A → Bool
-is_accepted (refused r) = false
-is_accepted (accepted a) = true
+is_accepted (Err r) = false
+is_accepted (Ok a) = true
 
-pub no_refusal : {A : Type 0} {r : Refusal} {a : A} {B : Type 0} → refused r ≡ accepted a → B
+pub no_refusal : {A : Type 0} {r : Refusal} {a : A} {B : Type 0} → Err r ≡ Ok a → B
 unfolding is_accepted
 no_refusal e = clash refl (ap is_accepted e)
 
 module _ (c : SimpleConsensusCaller) where
   -- no strings, or one
-  none_said : consensus_of c [] ≡ accepted (record { text = []; had_errors = false; builder = c.builder })
+  none_said : consensus_of c [] ≡ Ok (record { text = []; had_errors = false; builder = c.builder })
   unfolding alike first_found
   none_said = said_first c [] (inl (omega arith))
 
-  none_umis : umis_of c [] ≡ accepted (record { text = []; had_errors = false; builder = c.builder })
+  none_umis : umis_of c [] ≡ Ok (record { text = []; had_errors = false; builder = c.builder })
   unfolding alike
   none_umis = umis_alike c [] refl ∙ none_said
 
-  one_said : (t : List ℕ) → consensus_of c (t ∷ []) ≡ accepted (record { text = t; had_errors = false; builder = c.builder })
+  one_said : (t : List ℕ) → consensus_of c (t ∷ []) ≡ Ok (record { text = t; had_errors = false; builder = c.builder })
   unfolding first_found
   one_said t = said_first c (t ∷ []) (inl (omega arith)) ∙ rw (one_alike t)
 
-  all_agree : (strings : List (List ℕ)) (f : Found) → call_consensus_of c strings ≡ accepted f → consensus_of c strings ≡ accepted f
+  all_agree : (strings : List (List ℕ)) (f : Found) → call_consensus_of c strings ≡ Ok f → consensus_of c strings ≡ Ok f
   all_agree [] f e = no_refusal (sym (call_none c [] refl) ∙ e)
   all_agree (t ∷ ts) f e =
-      let u : umis_of c (t ∷ ts) ≡ accepted f = sym (call_some c (t ∷ ts) (omega arith)) ∙ e in
+      let u : umis_of c (t ∷ ts) ≡ Ok f = sym (call_some c (t ∷ ts) (omega arith)) ∙ e in
       test (alike (t ∷ ts)) (λ h. sym (umis_alike c (t ∷ ts) h) ∙ u) (λ h. no_refusal (sym (umis_unlike c (t ∷ ts) h) ∙ u))
 
   some_umis : (strings : List (List ℕ)) → (strings ≡ [] → ⊥) → umis_of c strings ≡ call_consensus_of c strings
@@ -150,7 +152,7 @@ module _ (c : SimpleConsensusCaller) (strings : List (List ℕ)) where
       let first = column_first strings k h in
       family_byte c strings h k l ∙ column_byte_other c.error_rate_pre_labeling.0 column (builder_at c column) (ap is_dna_base first ∙ d) ∙ first
 
-  flags : (found c strings).had_errors ≡ any (differs_from (found c strings).text) strings
+  flags : (found c strings).had_errors ≡ list_any (differs_from (found c strings).text) strings
   unfolding first_found
   flags = test (is_family strings) (family_flag c strings) (λ h. rw (other_found c strings h) (other_flag strings h))
 
@@ -161,9 +163,9 @@ module _ (c : SimpleConsensusCaller) (strings : List (List ℕ)) where
       let text = (found c strings).text in
       let differs : differs_from text t ≡ true =
       test (same_bytes t text) (λ s. clash n (rw (same_equal t text s) (all_letters h k l d))) (λ s. ap not s) in
-      flags ∙ ap (any (differs_from text)) e ∙ any_of (differs_from text) before after t differs
+      flags ∙ ap (list_any (differs_from text)) e ∙ any_of (differs_from text) before after t differs
 
-  unequal_first : alike strings ≡ false → consensus_of c strings ≡ accepted (record { text = first_of strings; had_errors = true; builder = c.builder })
+  unequal_first : alike strings ≡ false → consensus_of c strings ≡ Ok (record { text = first_of strings; had_errors = true; builder = c.builder })
   unfolding first_found
   unequal_first h = said_first c strings (inr h) ∙ rw h
 

@@ -1,4 +1,6 @@
 -- What is refused of every list of strings, and for want of room. Assumes nothing.
+use Rattle.std.specs.Prelude.{Err, Ok}
+use Rattle.std.specs.List.{list_any}
 use mathlib.Core.Path.{◌≡◌, refl, ◌∙◌}
 use mathlib.Core.Bool.{true, false}
 use mathlib.Core.Logic.{inl, inr}
@@ -10,10 +12,9 @@ use borrow.Author.Tests.{eq-eqb}
 use lib.Dec.{ltb}
 use lib.ListN.{length, get_or}
 use Rattle.words.proofs.Cases.{both, clash}
-use Rattle.words.specs.Lists.{any, is_empty}
+use Rattle.words.specs.Lists.{is_empty}
 use Rattle.refusals.specs.declared.Refusal.{Refusal}
 use Rattle.refusals.specs.declared.Refusal.TheVariants.{NoStrings, LengthsDiffer, NotAscii}
-use Rattle.refusals.specs.declared.Verdict.TheVariants.{Sound, Refused}
 use Rattle.refusals.specs.Result.{first_refused}
 use Rattle.umi_column.specs.Verdicts.{verdict_of}
 use Rattle.umi_rows.specs.Rows.{is_high}
@@ -29,13 +30,13 @@ use Rattle.umi_groups.proofs.Room.{room_short, room_enough}
 
 first_faulty : (cs : List (List ℕ)) (k : ℕ) (r : Refusal) → k < length cs
     → ((j : ℕ) → j < k → sound (get_or cs j []))
-    → verdict_of (get_or cs k []) ≡ Refused r
-    → first_refused verdict_of cs ≡ Refused r
+    → verdict_of (get_or cs k []) ≡ Err r
+    → first_refused verdict_of cs ≡ Err r
 first_faulty [] k r h f e = absurd (not-suc-le-zero h)
 first_faulty (c ∷ cs) zero r h f e = rw e
 first_faulty (c ∷ cs) (suc k) r h f e = rw (f 0 (omega arith)) (first_faulty cs k r (le_of_suc-le-suc h) (λ j l. f (suc j) (omega arith)) e)
 
-none_faulty : (cs : List (List ℕ)) → ((j : ℕ) → j < length cs → sound (get_or cs j [])) → first_refused verdict_of cs ≡ Sound
+none_faulty : (cs : List (List ℕ)) → ((j : ℕ) → j < length cs → sound (get_or cs j [])) → first_refused verdict_of cs ≡ Ok tt
 none_faulty [] f = refl
 none_faulty (c ∷ cs) f = rw (f 0 (omega arith)) (none_faulty cs (λ j l. f (suc j) (omega arith)))
 
@@ -63,7 +64,7 @@ one_alike t = rw (eq-eqb (length t) (length t) refl)
 -- ---- what is refused
 
 module _ (strings : List (List ℕ)) where
-  other_sound : is_family strings ≡ false → consensus_verdict strings ≡ Sound
+  other_sound : is_family strings ≡ false → consensus_verdict strings ≡ Ok tt
   unfolding consensus_verdict
   other_sound h = rw h
 
@@ -71,7 +72,7 @@ module _ (strings : List (List ℕ)) where
   unfolding umis_verdict
   alike_umis h = rw h
 
-  unlike_umis : alike strings ≡ false → umis_verdict strings ≡ Refused LengthsDiffer
+  unlike_umis : alike strings ≡ false → umis_verdict strings ≡ Err LengthsDiffer
   unfolding umis_verdict
   unlike_umis h = rw h
 
@@ -79,22 +80,22 @@ module _ (strings : List (List ℕ)) where
   unfolding call_verdict
   some_call h = rw h
 
-  high_family : is_family strings ≡ true → any (any is_high) strings ≡ true → consensus_verdict strings ≡ Refused NotAscii
+  high_family : is_family strings ≡ true → list_any (list_any is_high) strings ≡ true → consensus_verdict strings ≡ Err NotAscii
   unfolding consensus_verdict family_verdict
   high_family h k = rw (h, k)
 
-  low_family : is_family strings ≡ true → any (any is_high) strings ≡ false → consensus_verdict strings ≡ first_refused verdict_of (columns_of (length (first_of strings)) strings)
+  low_family : is_family strings ≡ true → list_any (list_any is_high) strings ≡ false → consensus_verdict strings ≡ first_refused verdict_of (columns_of (length (first_of strings)) strings)
   unfolding consensus_verdict family_verdict
   low_family h k = rw (h, k)
 
-none_verdicts : (call_verdict [] ≡ Refused NoStrings) × (umis_verdict [] ≡ Sound) × (consensus_verdict [] ≡ Sound)
+none_verdicts : (call_verdict [] ≡ Err NoStrings) × (umis_verdict [] ≡ Ok tt) × (consensus_verdict [] ≡ Ok tt)
 unfolding call_verdict umis_verdict consensus_verdict is_family alike
 none_verdicts = (refl, refl, refl)
 
-one_umis : (t : List ℕ) → umis_verdict (t ∷ []) ≡ Sound
+one_umis : (t : List ℕ) → umis_verdict (t ∷ []) ≡ Ok tt
 one_umis t = alike_umis (t ∷ []) (one_alike t) ∙ other_sound (t ∷ []) (no_family (t ∷ []) (inl (omega arith)))
 
-one_call : (t : List ℕ) → call_verdict (t ∷ []) ≡ Sound
+one_call : (t : List ℕ) → call_verdict (t ∷ []) ≡ Ok tt
 one_call t = some_call (t ∷ []) refl ∙ one_umis t
 
 pub conditions : (strings : List (List ℕ)) → StringConditions strings

@@ -1,4 +1,5 @@
 -- The laws of the strings of two strands. Assumes nothing.
+use Rattle.std.specs.Prelude.{Err, Ok, filter}
 use mathlib.Core.Path.{◌≡◌, refl, sym, ◌∙◌, ap}
 use mathlib.Core.Bool.{Bool, true, false}
 use mathlib.Core.List.{List, [], ◌∷◌, ◌++◌, map-append}
@@ -8,11 +9,9 @@ use borrow.Author.Tests.{eq-eqb}
 use lib.ListN.{length, take, length-append}
 use lib.Seq.{take-append_seam, drop-append_seam}
 use Rattle.words.proofs.Cases.{test}
-use Rattle.words.specs.Lists.{keep, is_empty}
+use Rattle.words.specs.Lists.{is_empty}
 use Rattle.refusals.specs.declared.Refusal.{Refusal}
-use Rattle.refusals.specs.declared.Verdict.{Verdict}
-use Rattle.refusals.specs.declared.Verdict.TheVariants.{Sound, Refused}
-use Rattle.refusals.specs.Result.{Result, refused, accepted, judged, and_then}
+use Rattle.refusals.specs.Result.{Result, judged, and_then, Verdict}
 use Rattle.base_builder.specs.declared.builder.ConsensusBaseBuilder.{ConsensusBaseBuilder}
 use Rattle.simple_consensus.specs.declared.caller.SimpleConsensusCaller.{SimpleConsensusCaller}
 use Rattle.simple_consensus.specs.Strings.{first_of, column_of, is_family}
@@ -26,14 +25,14 @@ use Rattle.simple_umi_laws.proofs.AnswerLaws.{answered, no_refusal, same_start, 
 
 -- ---- which strings a strand has
 
-keep_append : {A : Type 0} (p : A → Bool) (xs ys : List A) → keep p (xs ++ ys) ≡ keep p xs ++ keep p ys
+keep_append : {A : Type 0} (p : A → Bool) (xs ys : List A) → filter p (xs ++ ys) ≡ filter p xs ++ filter p ys
 keep_append p [] ys = refl
 keep_append p (x ∷ xs) ys = test (p x) (λ h. rw (h, keep_append p xs ys)) (λ h. rw (h, keep_append p xs ys))
 
 module _ (letter : ℕ) where
   strand_append : (ts us : List (List ℕ)) → strand_of letter (ts ++ us) ≡ strand_of letter ts ++ strand_of letter us
   unfolding strand_of
-  strand_append ts us = rw (keep_append (ends_in letter) ts us) (map-append (λ t. take (length t - 2) t) (keep (ends_in letter) ts) (keep (ends_in letter) us))
+  strand_append ts us = rw (keep_append (ends_in letter) ts us) (map-append (λ t. take (length t - 2) t) (filter (ends_in letter) ts) (filter (ends_in letter) us))
 
   -- a string with the two bytes added
   module _ (t : List ℕ) where
@@ -67,19 +66,19 @@ not_empty (x ∷ l) h = refl
 
 -- where a verdict does not refuse
 value_or : {A : Type 0} → A → Result A → A
-value_or d (refused r) = d
-value_or d (accepted a) = a
+value_or d (Err r) = d
+value_or d (Ok a) = a
 
-one_sound : (v : Verdict) (b : Found) (f : Found → FoundDuplex) (d : FoundDuplex) → and_then (judged v b) (λ y. accepted (f y)) ≡ accepted d → f b ≡ d
+one_sound : (v : Verdict) (b : Found) (f : Found → FoundDuplex) (d : FoundDuplex) → and_then (judged v b) (λ y. Ok (f y)) ≡ Ok d → f b ≡ d
 unfolding value_or
-one_sound (Refused r) b f d e = no_refusal e
-one_sound Sound b f d e = ap (value_or d) e
+one_sound (Err r) b f d e = no_refusal e
+one_sound (Ok _) b f d e = ap (value_or d) e
 
 -- where neither verdict refuses
 both_sound : (v : Verdict) (a : Found) (w : Found → Verdict) (b : Found → Found) (d : FoundDuplex)
-    → and_then (judged v a) (λ x. and_then (judged (w x) (b x)) (λ y. accepted (paired x y))) ≡ accepted d → paired a (b a) ≡ d
-both_sound (Refused r) a w b d e = no_refusal e
-both_sound Sound a w b d e = one_sound (w a) (b a) (λ y. paired a y) d e
+    → and_then (judged v a) (λ x. and_then (judged (w x) (b x)) (λ y. Ok (paired x y))) ≡ Ok d → paired a (b a) ≡ d
+both_sound (Err r) a w b d e = no_refusal e
+both_sound (Ok _) a w b d e = one_sound (w a) (b a) (λ y. paired a y) d e
 
 -- no column leaves the builder as it was
 as_it_was : (c : SimpleConsensusCaller) (strings : List (List ℕ)) → no_column strings → (found c strings).builder ≡ c.builder
@@ -87,16 +86,16 @@ as_it_was c strings n =
     test (is_family strings) (λ h. (answered c strings).no_column_lem h (n h)) (answered c strings).untouched
 
 module _ (c : SimpleConsensusCaller) (strings : List (List ℕ)) where
-  a_refused : (r : Refusal) → consensus_of c (strand_of 65 strings) ≡ refused r → duplex_of c strings ≡ refused r
+  a_refused : (r : Refusal) → consensus_of c (strand_of 65 strings) ≡ Err r → duplex_of c strings ≡ Err r
   unfolding duplex_of
   a_refused r e = rw e
 
-  module _ (a : Found) (e : consensus_of c (strand_of 65 strings) ≡ accepted a) where
-    b_refused : (r : Refusal) → consensus_of (with_builder a.builder c) (strand_of 66 strings) ≡ refused r → duplex_of c strings ≡ refused r
+  module _ (a : Found) (e : consensus_of c (strand_of 65 strings) ≡ Ok a) where
+    b_refused : (r : Refusal) → consensus_of (with_builder a.builder c) (strand_of 66 strings) ≡ Err r → duplex_of c strings ≡ Err r
     unfolding duplex_of
     b_refused r h = rw (e, h)
 
-    both : (b : Found) → consensus_of (with_builder a.builder c) (strand_of 66 strings) ≡ accepted b → duplex_of c strings ≡ accepted (paired a b)
+    both : (b : Found) → consensus_of (with_builder a.builder c) (strand_of 66 strings) ≡ Ok b → duplex_of c strings ≡ Ok (paired a b)
     unfolding duplex_of
     both b h = rw (e, h)
 
@@ -108,14 +107,14 @@ module _ (c : SimpleConsensusCaller) (strings : List (List ℕ)) where
   unfolding paired
   b_text a b h = rw h
 
-  no_a : strand_of 65 strings ≡ [] → (b : Found) → consensus_of c (strand_of 66 strings) ≡ accepted b
-      → duplex_of c strings ≡ accepted (record { found = record { text = b.text; had_errors = false; builder = b.builder }; had_errors_b = b.had_errors })
+  no_a : strand_of 65 strings ≡ [] → (b : Found) → consensus_of c (strand_of 66 strings) ≡ Ok b
+      → duplex_of c strings ≡ Ok (record { found = record { text = b.text; had_errors = false; builder = b.builder }; had_errors_b = b.had_errors })
   no_a h b e =
       let a : Found = record { text = []; had_errors = false; builder = c.builder } in
-      both a ((answered c (strand_of 65 strings)).none h) b (rw (same_caller c) e) ∙ ap accepted (b_text a b refl)
+      both a ((answered c (strand_of 65 strings)).none h) b (rw (same_caller c) e) ∙ ap Ok (b_text a b refl)
 
   -- the builder after an accepted call
-  module _ (d : FoundDuplex) (e : duplex_of c strings ≡ accepted d) where
+  module _ (d : FoundDuplex) (e : duplex_of c strings ≡ Ok d) where
     abbrev after_a : ConsensusBaseBuilder
     after_a = (found c (strand_of 65 strings)).builder
 
@@ -141,8 +140,8 @@ module _ (c : SimpleConsensusCaller) (strings : List (List ℕ)) where
   duplex = record {
     a_refused = a_refused;
     b_refused = b_refused;
-    a_string = λ a e b k h. both a e b k ∙ ap accepted (a_text a b h);
-    b_string = λ a e b k h. both a e b k ∙ ap accepted (b_text a b h);
+    a_string = λ a e b k h. both a e b k ∙ ap Ok (a_text a b h);
+    b_string = λ a e b k h. both a e b k ∙ ap Ok (b_text a b h);
     no_a = no_a;
     neither = λ h k. no_a h (record { text = []; had_errors = false; builder = c.builder }) ((answered c (strand_of 66 strings)).none k);
     b_builder = b_builder;

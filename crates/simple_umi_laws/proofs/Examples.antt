@@ -9,7 +9,8 @@ use Rattle.words.specs.Claims.{all}
 use Rattle.words.specs.Lists.{byte_at}
 use Rattle.words.specs.Lists.{listed}
 use Rattle.tie_rules.specs.Lanes.{lanes, base_of, lane_of_byte}
-use Rattle.tie_rules.specs.Ties.{fgbio_tie, fgbio_step, scan, fgbio_unique_max_index, not_minus_infinity, unique_max_index_with}
+use Rattle.tie_rules.specs.Scan.{scan}
+use Rattle.tie_rules.specs.Ties.{fgbio_tie, fgbio_taken, fgbio_step, fgbio_unique_max_index, not_minus_infinity, unique_max_index_with}
 use Rattle.lane_sums.specs.Observation.{moved_by, value_of, count_of}
 use Rattle.base_builder.specs.Builder.{new_at, cleared, reset_of, total, is_full, observed, added_by}
 use Rattle.umi_column.specs.Dna.{to_ascii_uppercase, is_dna_base}
@@ -36,5 +37,5 @@ unfolding lane_byte
 lane_byte_lem column = sym (column_byte_lem 90 90 20 column (new_at 90)) ∙ rw (← column_builder_lem 90 20 column (new_at 90), correct_entry, error_entry)
 
 pub examples : T (all claims)
-unfolding lane_byte named_byte added_all reset_of new_at cleared sub div le is_nan of_bits abs_of lanes base_of lane_of_byte fgbio_tie fgbio_step scan fgbio_unique_max_index not_minus_infinity unique_max_index_with moved_by value_of count_of total is_full observed added_by to_ascii_uppercase is_dna_base listed is_mixed verdict_of byte front many string string_set read_set columns_of alike is_family family_verdict consensus_verdict umis_verdict call_verdict caller_at family_found first_found found room_for call_consensus_in consensus_in consensus_umis_in gives refuses gives_none
+unfolding lane_byte named_byte added_all reset_of new_at cleared sub div le is_nan of_bits abs_of lanes base_of lane_of_byte fgbio_tie fgbio_taken fgbio_step scan fgbio_unique_max_index not_minus_infinity unique_max_index_with moved_by value_of count_of total is_full observed added_by to_ascii_uppercase is_dna_base listed is_mixed verdict_of byte front many string string_set read_set columns_of alike is_family family_verdict consensus_verdict umis_verdict call_verdict caller_at family_found first_found found room_for call_consensus_in consensus_in consensus_umis_in gives refuses gives_none
 examples = simp lane_byte_lem tt

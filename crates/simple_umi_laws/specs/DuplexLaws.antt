@@ -1,7 +1,6 @@
 -- What holds of the strings of two strands.
-use Rattle.std.specs.Prelude.{◌≡◌, true, false, List, [], ◌∷◌, ◌++◌, ℕ, suc, length}
+use Rattle.std.specs.Prelude.{◌≡◌, true, false, List, [], ◌∷◌, ◌++◌, ℕ, suc, length, Err, Ok}
 use Rattle.refusals.specs.declared.Refusal.{Refusal}
-use Rattle.refusals.specs.Result.{refused, accepted}
 use Rattle.simple_consensus.specs.declared.caller.SimpleConsensusCaller.{SimpleConsensusCaller}
 use Rattle.simple_consensus.specs.Strings.{first_of, column_of, is_family}
 use Rattle.umi_groups.specs.Found.{Found}
@@ -21,30 +20,30 @@ no_column strings = is_family strings ≡ true → length (first_of strings) ≡
 
 pub record Duplex (c : SimpleConsensusCaller) (strings : List (List ℕ)) : Type 0 where
   -- /A is treated as `consensus` treats a set, and its refusal comes first
-  pub a_refused : (r : Refusal) → consensus_of c (strand_of 65 strings) ≡ refused r → duplex_of c strings ≡ refused r
+  pub a_refused : (r : Refusal) → consensus_of c (strand_of 65 strings) ≡ Err r → duplex_of c strings ≡ Err r
   -- then /B is, by the caller as /A leaves it, and its refusal counts whatever /A's string is
-  pub b_refused : (a : Found) → consensus_of c (strand_of 65 strings) ≡ accepted a
-      → (r : Refusal) → consensus_of (with_builder a.builder c) (strand_of 66 strings) ≡ refused r → duplex_of c strings ≡ refused r
+  pub b_refused : (a : Found) → consensus_of c (strand_of 65 strings) ≡ Ok a
+      → (r : Refusal) → consensus_of (with_builder a.builder c) (strand_of 66 strings) ≡ Err r → duplex_of c strings ≡ Err r
   -- where neither is refused: /A's string
-  pub a_string : (a : Found) → consensus_of c (strand_of 65 strings) ≡ accepted a
-      → (b : Found) → consensus_of (with_builder a.builder c) (strand_of 66 strings) ≡ accepted b
-      → (a.text ≡ [] → ⊥) → duplex_of c strings ≡ accepted (pairing a b a.text)
+  pub a_string : (a : Found) → consensus_of c (strand_of 65 strings) ≡ Ok a
+      → (b : Found) → consensus_of (with_builder a.builder c) (strand_of 66 strings) ≡ Ok b
+      → (a.text ≡ [] → ⊥) → duplex_of c strings ≡ Ok (pairing a b a.text)
   -- or, where that is empty, /B's, with the flag of each
-  pub b_string : (a : Found) → consensus_of c (strand_of 65 strings) ≡ accepted a
-      → (b : Found) → consensus_of (with_builder a.builder c) (strand_of 66 strings) ≡ accepted b
-      → a.text ≡ [] → duplex_of c strings ≡ accepted (pairing a b b.text)
+  pub b_string : (a : Found) → consensus_of c (strand_of 65 strings) ≡ Ok a
+      → (b : Found) → consensus_of (with_builder a.builder c) (strand_of 66 strings) ≡ Ok b
+      → a.text ≡ [] → duplex_of c strings ≡ Ok (pairing a b b.text)
   -- as it is where no string ends in /A
-  pub no_a : strand_of 65 strings ≡ [] → (b : Found) → consensus_of c (strand_of 66 strings) ≡ accepted b
-      → duplex_of c strings ≡ accepted (record { found = record { text = b.text; had_errors = false; builder = b.builder }; had_errors_b = b.had_errors })
+  pub no_a : strand_of 65 strings ≡ [] → (b : Found) → consensus_of c (strand_of 66 strings) ≡ Ok b
+      → duplex_of c strings ≡ Ok (record { found = record { text = b.text; had_errors = false; builder = b.builder }; had_errors_b = b.had_errors })
   -- no string of either: an empty answer, no error, and the builder as it was
   pub neither : strand_of 65 strings ≡ [] → strand_of 66 strings ≡ []
-      → duplex_of c strings ≡ accepted (record { found = record { text = []; had_errors = false; builder = c.builder }; had_errors_b = false })
+      → duplex_of c strings ≡ Ok (record { found = record { text = []; had_errors = false; builder = c.builder }; had_errors_b = false })
   -- the builder after an accepted call: as the last column of /B leaves it, from the caller's own builder since a column starts with a reset
-  pub b_builder : (d : FoundDuplex) → duplex_of c strings ≡ accepted d → is_family (strand_of 66 strings) ≡ true
+  pub b_builder : (d : FoundDuplex) → duplex_of c strings ≡ Ok d → is_family (strand_of 66 strings) ≡ true
       → (k : ℕ) → length (first_of (strand_of 66 strings)) ≡ suc k → d.found.builder ≡ builder_at c (column_of (strand_of 66 strings) k)
   -- where /B has no column, as the last one of /A does
-  pub a_builder : (d : FoundDuplex) → duplex_of c strings ≡ accepted d → no_column (strand_of 66 strings) → is_family (strand_of 65 strings) ≡ true
+  pub a_builder : (d : FoundDuplex) → duplex_of c strings ≡ Ok d → no_column (strand_of 66 strings) → is_family (strand_of 65 strings) ≡ true
       → (k : ℕ) → length (first_of (strand_of 65 strings)) ≡ suc k → d.found.builder ≡ builder_at c (column_of (strand_of 65 strings) k)
   -- and where neither has one, as it was
-  pub same_builder : (d : FoundDuplex) → duplex_of c strings ≡ accepted d → no_column (strand_of 66 strings) → no_column (strand_of 65 strings)
+  pub same_builder : (d : FoundDuplex) → duplex_of c strings ≡ Ok d → no_column (strand_of 66 strings) → no_column (strand_of 65 strings)
       → d.found.builder ≡ c.builder

@@ -1,9 +1,9 @@
 -- Worked inputs at the defaults, in claims that are computed.
-use Rattle.std.specs.Prelude.{ℕ, Bool, true, false, ◌&&◌, List, [], ◌∷◌, eqb, replicate}
+use Rattle.std.specs.Prelude.{ℕ, Bool, true, false, ◌&&◌, List, [], ◌∷◌, eqb, replicate, Err, Ok}
 use Rattle.std.specs.Bool.{beq}
 use Rattle.words.specs.Lists.{is_empty, same_bytes}
 use Rattle.refusals.specs.Refusals.{number_of}
-use Rattle.refusals.specs.Result.{Result, refused, accepted}
+use Rattle.refusals.specs.Result.{Result}
 use Rattle.string_set.specs.StringSet.{read_set}
 use Rattle.umi_groups.specs.Found.{Found}
 use Rattle.simple_consensus.specs.Consensus.{default_caller, consensus_of, umis_of, call_consensus_of}
@@ -12,18 +12,18 @@ use Rattle.simple_umi.specs.Answers.{consensus_in}
 
 -- this string and this flag
 unfoldable pub gives : Result Found → List ℕ → Bool → Bool
-gives (refused r) text flag = false
-gives (accepted f) text flag = same_bytes f.text text && beq f.had_errors flag
+gives (Err r) text flag = false
+gives (Ok f) text flag = same_bytes f.text text && beq f.had_errors flag
 
 -- the refusal of this number
 unfoldable pub refuses : {A : Type 0} → Result A → ℕ → Bool
-refuses (refused r) n = eqb (number_of r) n
-refuses (accepted a) n = false
+refuses (Err r) n = eqb (number_of r) n
+refuses (Ok a) n = false
 
 -- no strings, and no refusal
 unfoldable pub gives_none : Result (List (List ℕ)) → Bool
-gives_none (refused r) = false
-gives_none (accepted l) = is_empty l
+gives_none (Err r) = false
+gives_none (Ok l) = is_empty l
 
 -- `call_consensus`, `consensus_umis` and `consensus`, at the defaults
 abbrev pub call : List (List ℕ) → Result Found

@@ -1,4 +1,4 @@
-// What stands in for a quality of 255, which SAM calls absent.
+// What stands in for a quality of 255, which SAM calls absent: a quality, or nothing.
 #![tactic(auto)]
 
 ghost use Rattle.std.specs.Prelude.{◌≡◌};
@@ -6,19 +6,9 @@ ghost use Rattle.stand_in.specs.StandIns.{absent_as};
 
 use phred::PhredScore;
 
-#[derive(Clone, Copy)]
-pub enum StandIn {
-    NotGiven,
-    // The quality that 255 is added as.
-    Given(PhredScore),
-}
-
 // What a quality of 255 is added as: itself where nothing stands in for it.
-pub fn absent_as(stand_in: StandIn) -> PhredScore
+pub fn absent_as(stand_in: Option<PhredScore>) -> PhredScore
     ensures { result.0 ≡ absent_as stand_in }
 {
-    match stand_in {
-        StandIn::NotGiven => PhredScore(255),
-        StandIn::Given(quality) => quality,
-    }
+    stand_in.unwrap_or(PhredScore(255))
 }

@@ -8,7 +8,8 @@ use lib.Dec.{leb}
 use lib.ListN.{length, take}
 use lib.Seq.{length-take-le, take_all}
 use Rattle.words.proofs.Cases.{test}
-use Rattle.lent_bytes.specs.Buffer.{written}
+use Rattle.std.specs.Prelude.{unwrap_or}
+use Rattle.lent_bytes.specs.Buffer.{written, written_length}
 use Rattle.streams.specs.Streams.{FrontOf, onto}
 
 -- what f says of bytes, and says alike of all that are more than `most`
@@ -29,3 +30,8 @@ module _ (f : List ℕ → List ℕ) (most : ℕ) (alike : (s t : List ℕ) → 
 pub fits_onto : (t out : List ℕ) → length t ≤ length out → written t out ≡ onto t out
 unfolding written
 fits_onto t out h = rw (le-leb (length t) (length out) h)
+
+-- and how long what was written is
+pub fits_length : (t out : List ℕ) → length t ≤ length out → unwrap_or (written_length t out) 0 ≡ length t
+unfolding written_length
+fits_length t out h = rw (le-leb (length t) (length out) h)

@@ -1,8 +1,8 @@
 -- Reading off the front of a list of bytes. No position and no loop stands here.
-use Rattle.std.specs.Prelude.{ℕ, zero, suc, ◌+◌, ◌*◌, List, [], ◌∷◌, leb, ltb, length, take, drop}
+use Rattle.std.specs.Prelude.{ℕ, zero, suc, ◌+◌, ◌*◌, List, [], ◌∷◌, leb, ltb, length, take, drop, Err, Ok}
 use Rattle.std.specs.Prelude.{if◌then◌else◌}
 use Rattle.refusals.specs.declared.Refusal.TheVariants.{FileTooLong, CutOff}
-use Rattle.refusals.specs.Result.{Result, refused, accepted}
+use Rattle.refusals.specs.Result.{Result}
 
 -- what is read off the front, and the bytes after it; or the bytes do not reach
 pub data Taken (A : Type 0) : Type 0 where
@@ -36,9 +36,9 @@ many one (suc n) r = next (one r) (λ a s. next (many one n s) (λ l t. taken (a
 
 -- nothing may be left
 abbrev pub alone : {A : Type 0} → Taken A → Result A
-alone short = refused CutOff
-alone (taken a []) = accepted a
-alone (taken a (x ∷ r)) = refused CutOff
+alone short = Err CutOff
+alone (taken a []) = Ok a
+alone (taken a (x ∷ r)) = Err CutOff
 
 -- the most bytes that a file, a part of one or a string set may have
 abbrev pub longest_file : ℕ
@@ -47,5 +47,5 @@ longest_file = 65536
 -- bytes that are one such part and nothing else: 1 where there are over 65,536 of them, and else 2 where they are not
 abbrev pub lone : {A : Type 0} → (List ℕ → Taken A) → List ℕ → Result A
 lone one s =
-    if ltb longest_file (length s) then refused FileTooLong
+    if ltb longest_file (length s) then Err FileTooLong
     else alone (one s)

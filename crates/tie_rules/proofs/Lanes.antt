@@ -1,34 +1,30 @@
 -- What the definitions on lanes say of an arbitrary lane. Assumes nothing.
-use mathlib.Core.Path.{◌≡◌, refl, ap, ◌∙◌, subst}
-use mathlib.Core.Bool.{Bool, true, false, ◌||◌}
-use mathlib.Core.Logic.{inl, inr, ⊎_elim}
-use Prim.Native.Nat.{ℕ, zero, suc, ◌+◌, ◌-◌, ◌≤◌, ◌<◌}
-use native.Mathlib.Nat.{eq-or-lt_of_le, le_of_suc-le-suc, not-suc-le-zero}
-use native.Mathlib.Numerals.{add-one}
+use mathlib.Core.Path.{◌≡◌, refl, ap, ◌∙◌}
+use mathlib.Core.Bool.{Bool, true, false, ◌&&◌, ◌||◌}
+use mathlib.Core.Logic.{inl, inr}
+use Prim.Native.Nat.{ℕ, zero, suc, ◌-◌, ◌≤◌, ◌<◌}
+use native.Mathlib.Nat.{eq-or-lt_of_le, le_of_suc-le-suc}
 use native.Mathlib.Omega.{arith}
 use borrow.Author.Tests.{eqb-true, eqb-false, not-true}
 use lib.Dec.{eqb}
 use lib.ListN.{get_or}
 use Rattle.std.specs.Prelude.{if◌then◌else◌}
-use Rattle.words.proofs.Cases.{both, and-false}
+use Rattle.std.specs.List.{list_all, range_with_len}
+use Rattle.words.proofs.Cases.{both}
 use Rattle.tie_rules.specs.Lanes.{lanes, no_lane, lane_of_byte, is_base, lanes_after}
 use Rattle.words.specs.Claims.{all_below}
 
--- one more lane of which the claim holds
-pub below_on : (j : ℕ) (p : ℕ → Bool) → all_below j p ≡ true → p j ≡ true → all_below (j + 1) p ≡ true
-unfolding all_below
-below_on j p h e = rw (add-one j, h) e
+-- a test of each of the four lanes, in their order, is the claim on all
+four_tests : (a b c d : Bool) → (a && (b && (c && (d && true)))) ≡ (true && a && b && c && d)
+four_tests false b c d = refl
+four_tests true false c d = refl
+four_tests true true false d = refl
+four_tests true true true false = refl
+four_tests true true true true = refl
 
--- all lanes have been passed
-pub below_end : (p : ℕ → Bool) {j n : ℕ} → j ≡ n → all_below j p ≡ true → all_below n p ≡ true
-below_end p e h = subst (λ (k : ℕ). all_below k p ≡ true) e h
-
--- a lane of which it does not hold
-pub below_stop : (n : ℕ) (p : ℕ → Bool) (j : ℕ) → j < n → p j ≡ false → all_below n p ≡ false
+pub each_lane : (p : ℕ → Bool) → list_all p (range_with_len 0 4) ≡ all_below 4 p
 unfolding all_below
-below_stop zero p j h e = absurd (not-suc-le-zero h)
-below_stop (suc n) p j h e =
-    ⊎_elim (λ k. rw (subst (λ (i : ℕ). p i ≡ false) k e) (and-false (all_below n p))) (λ k. rw (below_stop n p j k e)) (eq-or-lt_of_le (le_of_suc-le-suc h))
+each_lane p = four_tests (p 0) (p 1) (p 2) (p 3)
 
 -- what holds below n holds of each
 pub below_at : (n : ℕ) (p : ℕ → Bool) (j : ℕ) → all_below n p ≡ true → j < n → p j ≡ true

@@ -1,169 +1,139 @@
--- The scan that begins at -infinity names the lane that fgbio's scan does, but for a winning -infinity. Assumes nothing.
-use mathlib.Core.Path.{◌≡◌, refl, sym, ap, ◌∙◌}
-use mathlib.Core.Bool.{Bool, true, false, not, ◌||◌}
-use mathlib.Core.Logic.{◌⊎◌, inl, inr, ⊎_elim}
+-- What is known of the lane that a scan which begins at -infinity ends with: under either rule no lane is above it, and under fgbio's none ties with it. Assumes nothing.
+use mathlib.Core.Path.{◌≡◌, refl, sym, subst}
+use mathlib.Core.Bool.{true, false, not}
+use mathlib.Core.Logic.{inl, inr, ◌≢◌, ⊎_elim}
 use mathlib.Core.List.{List}
 use Prim.Native.Nat.{ℕ, zero, suc, ◌<◌, ◌≤◌}
+use native.Mathlib.Nat.{eq-or-lt_of_le, le_of_suc-le-suc}
 use native.Mathlib.Omega.{arith}
-use lib.Dec.{ltb}
-use lib.Ieee.{Float, nan, inf, fin, lt, le, eq, neg, add, sub, div, is_nan, of_bits}
-use borrow.Author.Tests.{lt-ltb, ltb-true}
+use lib.Ieee.{Float, nan, inf, fin, lt, le, eq, neg, add, sub, is_nan}
+use borrow.Author.Tests.{lt-ltb, le-ltb}
+use Rattle.std.specs.Prelude.{Option, Some, None, IfSome}
 use Rattle.float.specs.Ops.{◌⊖◌, epsilon}
-use Rattle.std.specs.Prelude.{if◌then◌else◌}
 use Rattle.float.specs.Methods.{abs_of}
-use Rattle.words.proofs.Cases.{test, clash, choice}
-use Rattle.float.proofs.Order.{lt_numbers, lt_trans, lt_not_eq}
+use Rattle.words.proofs.Cases.{test, clash, refuted, choice, and-false}
+use Rattle.float.proofs.Order.{lt_irrefl, lt_trans, lt_numbers, le_or, not_lt_le, eq_lt}
 use Rattle.float.proofs.Turned.{turned}
-use Rattle.phred.specs.Phred.{ln_zero}
-use Rattle.tie_rules.proofs.Stands.{nan_above}
-use Rattle.tie_rules.specs.declared.tie_rule.Scan.{Scan}
 use Rattle.tie_rules.specs.declared.lead.Lead.{Lead}
-use Rattle.tie_rules.specs.Lanes.{lane, no_lane}
+use Rattle.tie_rules.specs.declared.tie_rule.TieRule.TheVariants.{FgbioCompat}
+use Rattle.tie_rules.specs.Lanes.{lane}
 use Rattle.tie_rules.specs.Lead.{lead_step}
-use Rattle.tie_rules.specs.Ties.{fgbio_tie, new_lead, cancelled, fgbio_step, scan, unseen, fgbio_unique_max_index, not_minus_infinity}
+use Rattle.tie_rules.specs.Scan.{scan, new_lead, cancelled, below_every}
+use Rattle.tie_rules.specs.Ties.{fgbio_tie, fgbio_tested, ties_with, ulp_step}
 
--- where it begins
-abbrev pub start : Lead
-start = record { best = ln_zero; at = no_lane }
+-- what each lane keeps holds of a scan
+pub scan_keeps : {A : Type 0} (step : A → ℕ → Float → A) (xs : List Float) (P : ℕ → A → Type 0) → ((n : ℕ) (r : A) → n < 4 → P n r → P (suc n) (step r n (lane xs n))) → (r : A) → P 0 r → (n : ℕ) → n ≤ 4 → P n (scan step r xs n)
+unfolding scan
+scan_keeps step xs P f r h zero m = h
+scan_keeps step xs P f r h (suc n) m = f n (scan step r xs n) (omega arith) (scan_keeps step xs P f r h n (omega arith))
 
--- after the first n lanes
-unfoldable pub lead_of : List Float → ℕ → Lead
-lead_of xs zero = start
-lead_of xs (suc n) = lead_step (lead_of xs n) n (lane xs n)
+-- ---- a NaN, and a value above the running maximum
 
--- a lane of NaN or of -infinity, met at the start, is passed by
-passes : (n : ℕ) (x : Float) → lt ln_zero x ≡ false → lead_step start n x ≡ start
-unfolding lead_step lt le eq sub add neg div of_bits
-passes n nan h = refl
-passes n (inf true) h = refl
-passes n (inf false) h = clash h refl
-passes n (fin s m e) h = clash h refl
+-- a NaN is above nothing
+pub nan_above : (x y : Float) → is_nan x ≡ true → lt y x ≡ false
+nan_above x y h = refuted (lt y x) (λ t. clash (lt_numbers y x t).1 h)
 
--- what is a number and not above -infinity is -infinity
-is_lowest : (x : Float) → is_nan x ≡ false → lt ln_zero x ≡ false → x ≡ ln_zero
-unfolding lt is_nan neg div of_bits
-is_lowest nan n h = clash n refl
-is_lowest (inf true) n h = refl
-is_lowest (inf false) n h = clash h refl
-is_lowest (fin s m e) n h = clash h refl
+-- and nothing later is within 2^-52 of it
+nan_earlier : (x y : Float) → is_nan x ≡ true → fgbio_tie y x ≡ false
+unfolding fgbio_tie abs_of is_nan sub add neg le lt eq
+nan_earlier nan nan h = refl
+nan_earlier nan (inf s) h = refl
+nan_earlier nan (fin s m e) h = refl
+nan_earlier (inf s) y h = clash refl h
+nan_earlier (fin s m e) y h = clash refl h
 
--- it is equal to itself, and does not tie with itself
-lowest_itself : (eq ln_zero ln_zero ≡ true) × (fgbio_tie ln_zero ln_zero ≡ false)
-unfolding fgbio_tie abs_of le lt eq sub add neg div of_bits
-lowest_itself = (refl, refl)
+-- a number that y is not below is below what y is below
+over : (x y z : Float) → lt y x ≡ true → is_nan z ≡ false → lt y z ≡ false → lt z x ≡ true
+over x y z h n k = ⊎_elim (λ u. lt_trans z y x u h) (λ u. eq_lt z y x u h) (le_or z y (not_lt_le y z (lt_numbers y x h).0 n k))
 
-or-true : (b : Bool) → (b || true) ≡ true
-or-true true = refl
-or-true false = refl
+-- what y is not below, nothing above y is below
+still : (x y z : Float) → lt y x ≡ true → lt y z ≡ false → lt x z ≡ false
+still x y z h k = refuted (lt x z) (λ t. clash k (lt_trans y x z h t))
 
--- no value is near NaN
-nan_apart : (x y : Float) → is_nan x ≡ true → le (y ⊖ x) epsilon ≡ false
-unfolding is_nan le lt eq sub add neg of_bits
-nan_apart nan nan h = refl
-nan_apart nan (inf s) h = refl
-nan_apart nan (fin s m e) h = refl
-nan_apart (inf s) y h = clash refl h
-nan_apart (fin s m e) y h = clash refl h
+-- ---- claims on every lane below n
 
--- the running maximum and its lane, without the flag
-abbrev leads : Scan → Lead
-leads r = record { best = r.best; at = r.at }
+-- one lane more: it, or one before
+one_more : (P : ℕ → Type 0) (n : ℕ) → P n → ((j : ℕ) → j < n → P j) → (j : ℕ) → j < suc n → P j
+one_more P n p f j h = elim (eq-or-lt_of_le (le_of_suc-le-suc h)) [ inl e ↦ subst P (sym e) p | inr l ↦ f j l ]
 
 module _ (xs : List Float) where
-  -- no lane above -infinity was met: one that was taken is of -infinity
-  record None (r : Scan) (l : Lead) : Type 0 where
-    begins : l ≡ start
-    lowest : (r.seen ≡ false) ⊎ (r.best ≡ ln_zero)
-    place : (r.at ≡ no_lane) ⊎ ((r.at < 4) × (eq (lane xs r.at) ln_zero ≡ true))
+  -- lane i is one of the first n, and holds b
+  abbrev pub Held : ℕ → Float → Option ℕ → Type 0
+  Held n b o = IfSome o (λ i. (i < n) × (b ≡ lane xs i))
 
-  -- one was met: both scans have it
-  record Some (r : Scan) (l : Lead) : Type 0 where
-    same : l ≡ leads r
-    seen : r.seen ≡ true
-    above : lt ln_zero r.best ≡ true
-    place : r.at < 4 → lane xs r.at ≡ r.best
+  held_more : (n : ℕ) (b : Float) (o : Option ℕ) → Held n b o → Held (suc n) b o
+  held_more n b None h = h
+  held_more n b (Some i) h = (omega (arith, h.0), h.1)
 
-  abbrev Alike : Scan → Lead → Type 0
-  Alike r l = None r l ⊎ Some r l
+  -- no lane so far is above the maximum, which the lane that leads holds
+  pub record Knows (n : ℕ) (l : Lead) : Type 0 where
+    pub top : (j : ℕ) → j < n → lt l.best (lane xs j) ≡ false
+    pub place : Held n l.best l.at
 
-  module _ (n : ℕ) (inside : n < 4) (r : Scan) where
+  module _ (n : ℕ) (l : Lead) (k : Knows n l) where
     abbrev x : Float
     x = lane xs n
 
-    -- a lane above -infinity is taken by both
-    takes : lt ln_zero x ≡ true → (r.seen ≡ false) ⊎ (r.best ≡ ln_zero) → fgbio_step r n x ≡ new_lead x n
-    unfolding fgbio_step
-    takes h (inl s) = rw ((lt_numbers ln_zero x h).1, s)
-    takes h (inr b) = rw ((lt_numbers ln_zero x h).1, b, h, or-true (not r.seen))
+    rises : lt l.best x ≡ true → Knows (suc n) (new_lead x n)
+    rises b = record { top = one_more (λ j. lt x (lane xs j) ≡ false) n (lt_irrefl x) (λ j h. still x l.best (lane xs j) b (k.top j h)); place = (omega arith, refl) }
 
-    taken_some : lt ln_zero x ≡ true → Some (new_lead x n) (leads (new_lead x n))
-    taken_some h = record { same = refl; seen = refl; above = h; place = λ _. refl }
+    above : lt l.best x ≡ false → (j : ℕ) → j < suc n → lt l.best (lane xs j) ≡ false
+    above b = one_more (λ j. lt l.best (lane xs j) ≡ false) n b k.top
 
-    -- any other by neither, or by the first scan as the first number
-    kept_none : None r start → lt ln_zero x ≡ false → None (fgbio_step r n x) start
-    unfolding fgbio_step
-    kept_none k h =
-        choice (λ r. None r start) (is_nan x) r _ (λ _. k)
-        (λ a. let e = is_lowest x a h in
-        choice (λ r. None r start) (not r.seen || lt r.best x) (new_lead x n) _
-        (λ _. record { begins = refl; lowest = inr e; place = inr (inside, rw e lowest_itself.0) })
-        (λ b. ⊎_elim (λ s. clash (sym (rw s) ∙ b) refl)
-        (λ z. let t = ap (λ y. fgbio_tie y r.best) e ∙ ap (fgbio_tie ln_zero) z ∙ lowest_itself.1 in
-        choice (λ r. None r start) (fgbio_tie x r.best) (cancelled r) r (clash t) (λ _. k)) k.lowest))
+    stays : lt l.best x ≡ false → Knows (suc n) l
+    stays b = record { top = above b; place = held_more n l.best l.at k.place }
 
-    step-none : (l : Lead) → None r l → Alike (fgbio_step r n x) (lead_step l n x)
+    ulp_more : Knows (suc n) (ulp_step l n x)
+    unfolding ulp_step
+    ulp_more = choice (Knows (suc n)) (lt l.best x) (new_lead x n) l rises stays
+
+    lead_more : Knows (suc n) (lead_step l n x)
     unfolding lead_step
-    step-none l k =
-        rw k.begins
-        (test (lt ln_zero x)
-        (λ h. inr (rw (takes h k.lowest, h) (taken_some h)))
-        (λ h. inl (rw (passes n x h) (kept_none (rw k.begins at k) h))))
+    lead_more =
+        choice (Knows (suc n)) (lt l.best x) (new_lead x n) _ rises
+        (λ b. choice (Knows (suc n)) (le (l.best ⊖ x) epsilon) (cancelled l) l (λ _. record { top = above b; place = tt }) (λ _. stays b))
 
-    -- after a lane above -infinity both do the same
-    skips : is_nan x ≡ true → fgbio_step r n x ≡ r
-    unfolding fgbio_step
-    skips a = rw a
+  unknown : Knows 0 below_every
+  unknown = record { top = λ j h. absurd (omega arith); place = tt }
 
-    over : is_nan x ≡ false → lt r.best x ≡ true → fgbio_step r n x ≡ new_lead x n
-    unfolding fgbio_step
-    over a b = rw (a, b, or-true (not r.seen))
+  pub ulp_knows : Knows 4 (scan ulp_step below_every xs 4)
+  ulp_knows = scan_keeps ulp_step xs Knows (λ n l _ k. ulp_more n l k) below_every unknown 4 (omega arith)
 
-    kept : is_nan x ≡ false → r.seen ≡ true → lt r.best x ≡ false → fgbio_step r n x ≡ (if le (r.best ⊖ x) epsilon then cancelled r else r)
-    unfolding fgbio_step fgbio_tie
-    kept a s b = rw (a, s, b, turned x r.best epsilon b)
+  pub lead_knows : (n : ℕ) → n ≤ 4 → Knows n (scan lead_step below_every xs n)
+  lead_knows = scan_keeps lead_step xs Knows (λ n l _ k. lead_more n l k) below_every unknown
 
-    stays : Some r (leads r) → Some (fgbio_step r n x) (lead_step (leads r) n x)
+  -- ---- FgbioCompat
+
+  -- no lane but i, of the value b, ties with it as the rule tests it
+  abbrev pub Apart : ℕ → Float → Option ℕ → Type 0
+  Apart n b o = IfSome o (λ i. (j : ℕ) → j < n → j ≢ i → ties_with FgbioCompat i b j (lane xs j) ≡ false)
+
+  module _ (n : ℕ) (l : Lead) (k : Knows n l) where
+    -- lane n takes over: every number before it is below it
+    takes : lt l.best (lane xs n) ≡ true → Apart (suc n) (lane xs n) (Some n)
+    unfolding ties_with fgbio_tested
+    takes b =
+        let x = lane xs n in
+        one_more (λ j. j ≢ n → ties_with FgbioCompat n x j (lane xs j) ≡ false) n (λ d. absurd (d refl))
+        (λ j h d. let y = lane xs j in
+        rw (le-ltb n j (omega arith))
+        (test (is_nan y) (λ m. rw (nan_earlier y x m) (and-false (not (lt y x)))) (λ m. rw (over x l.best y b m (k.top j h)))))
+
+    -- lane n leaves the maximum, which is more than 2^-52 above it
+    leaves : lt l.best (lane xs n) ≡ false → le (l.best ⊖ lane xs n) epsilon ≡ false → (o : Option ℕ) → Held n l.best o → Apart n l.best o → Apart (suc n) l.best o
+    unfolding ties_with fgbio_tested fgbio_tie
+    leaves b t None h a = a
+    leaves b t (Some i) h a =
+        let x = lane xs n in
+        one_more (λ j. j ≢ i → ties_with FgbioCompat i l.best j (lane xs j) ≡ false) n
+        (λ _. rw (lt-ltb i n h.0, turned x l.best epsilon b, t) (and-false (not (lt l.best x)))) a
+
+    apart_more : Apart n l.best l.at → let m = lead_step l n (lane xs n) in Apart (suc n) m.best m.at
     unfolding lead_step
-    stays k =
-        test (is_nan x)
-        (λ a. rw (skips a, nan_above x r.best a, nan_apart x r.best a) k)
-        (λ a. test (lt r.best x)
-        (λ b. rw (over a b, b) (taken_some (lt_trans ln_zero r.best x k.above b)))
-        (λ b. rw (kept a k.seen b, b)
-        (test (le (r.best ⊖ x) epsilon)
-        (λ t. rw t (record { same = refl; seen = k.seen; above = k.above; place = λ h. absurd (omega arith) }))
-        (λ t. rw t k))))
+    apart_more a =
+        let x = lane xs n in
+        choice (λ (m : Lead). Apart (suc n) m.best m.at) (lt l.best x) (new_lead x n) _ takes
+        (λ b. choice (λ (m : Lead). Apart (suc n) m.best m.at) (le (l.best ⊖ x) epsilon) (cancelled l) l (λ _. tt) (λ t. leaves b t l.at k.place a))
 
-    step-some : (l : Lead) → Some r l → Some (fgbio_step r n x) (lead_step l n x)
-    step-some l k = rw k.same (stays (rw k.same at k))
-
-  alike : (n : ℕ) → n ≤ 4 → Alike (scan fgbio_step unseen xs n) (lead_of xs n)
-  unfolding scan lead_of
-  alike zero h = inl (record { begins = refl; lowest = inl refl; place = inl refl })
-  alike (suc n) h = let r = scan fgbio_step unseen xs n in ⊎_elim (step-none n h r (lead_of xs n)) (λ k. inr (step-some n h r (lead_of xs n) k)) (alike n (omega arith))
-
-  none_called : (r : Scan) (l : Lead) → None r l → l.at ≡ not_minus_infinity xs r.at
-  unfolding not_minus_infinity
-  none_called r l k = rw k.begins (⊎_elim (λ e. rw e) (λ p. rw (lt-ltb r.at 4 p.0, p.1)) k.place)
-
-  some_called : (r : Scan) (l : Lead) → Some r l → l.at ≡ not_minus_infinity xs r.at
-  unfolding not_minus_infinity
-  some_called r l k =
-      rw k.same
-      (test (ltb r.at 4)
-      (λ t. rw (t, k.place (ltb-true r.at 4 t), (lt_not_eq ln_zero r.best k.above).1))
-      (λ t. rw t))
-
-  pub lead_is : (lead_of xs 4).at ≡ not_minus_infinity xs (fgbio_unique_max_index xs)
-  unfolding fgbio_unique_max_index
-  lead_is = let r = scan fgbio_step unseen xs 4 in ⊎_elim (none_called r (lead_of xs 4)) (some_called r (lead_of xs 4)) (alike 4 (omega arith))
+  pub lead_apart : let l = scan lead_step below_every xs 4 in Apart 4 l.best l.at
+  lead_apart = (scan_keeps lead_step xs (λ n l. Knows n l × Apart n l.best l.at) (λ n l _ k. (lead_more n l k.0, apart_more n l k.0 k.1)) below_every (unknown, tt) 4 (omega arith)).1

@@ -1,5 +1,5 @@
 pub mod Lanes
-pub mod Stands
-pub mod Leading
 pub mod Clear
-pub mod Answered
+pub mod Leading
+pub mod Named
+pub mod Stands

@@ -1,4 +1,5 @@
 pub mod Lanes
+pub mod UniqueMax
+pub mod Scan
 pub mod Ties
 pub mod Lead
-pub mod UniqueMax

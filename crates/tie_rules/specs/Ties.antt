@@ -1,17 +1,19 @@
 -- The two tie rules: when two lanes tie, and the lane that each rule names.
-use Rattle.std.specs.Prelude.{ℕ, zero, suc, ◌+◌, ◌^◌, Bool, true, false, not, ◌&&◌, ◌||◌, List, leb, ltb, eqb, Float}
+use Rattle.std.specs.Prelude.{ℕ, ◌+◌, ◌^◌, Bool, true, false, not, ◌&&◌, ◌||◌, Option, Some, None, option_and_then, List, leb, ltb, eqb, Float}
 use Rattle.std.specs.Bool.{beq}
 use Rattle.std.specs.Float.{binary64}
 use Rattle.std.specs.Float.Ieee.{to_bits, lt, le, eq, is_nan}
 use Rattle.std.specs.Float.Ieee.Scale.{finite}
-use Rattle.float.specs.Ops.{◌⊖◌, plus_zero, epsilon}
+use Rattle.float.specs.Ops.{◌⊖◌, epsilon}
 use Rattle.std.specs.Prelude.{if◌then◌else◌}
 use Rattle.float.specs.Methods.{abs_of}
 use Rattle.phred.specs.Phred.{ln_zero}
-use Rattle.tie_rules.specs.declared.tie_rule.Scan.{Scan}
+use Rattle.tie_rules.specs.declared.lead.Lead.{Lead}
 use Rattle.tie_rules.specs.declared.tie_rule.TieRule.{TieRule}
 use Rattle.tie_rules.specs.declared.tie_rule.TieRule.TheVariants.{UlpRelative, FgbioCompat}
 use Rattle.tie_rules.specs.Lanes.{lane, no_lane}
+use Rattle.tie_rules.specs.Scan.{scan, new_lead, cancelled, below_every}
+use Rattle.tie_rules.specs.UniqueMax.{lane_number}
 use Rattle.words.specs.Claims.{all_below}
 
 -- the rule of a number: 0 FgbioCompat, any other UlpRelative
@@ -19,6 +21,11 @@ abbrev pub rule_of : ℕ → TieRule
 rule_of n =
     if eqb n 0 then FgbioCompat
     else UlpRelative
+
+-- and the number of a rule
+abbrev pub rule_number : TieRule → ℕ
+rule_number FgbioCompat = 0
+rule_number UlpRelative = 1
 
 -- ---- when two lanes tie
 
@@ -57,55 +64,45 @@ untied rule xs i m = all_below 4 (λ j. eqb i j || not (ties_with rule i m j (la
 unfoldable pub none_above : List Float → Float → Bool
 none_above xs m = all_below 4 (λ j. not (lt m (lane xs j)))
 
--- ---- the scan from lane to lane: whether a lane was taken, the running maximum, and its lane
+-- ---- one lane of a scan
 
--- lane k, of the value x, takes over
-abbrev pub new_lead : Float → ℕ → Scan
-new_lead x k = record { seen = true; best = x; at = k }
-
--- the running maximum stays, and is cancelled
-abbrev pub cancelled : Scan → Scan
-cancelled r = record { seen = r.seen; best = r.best; at = no_lane }
-
--- One lane under FgbioCompat: a NaN is skipped; the first, and any above the running maximum, takes over, also after a cancellation; any other that
+-- A lane that is a number, under FgbioCompat: the first, and any above the running maximum, takes over, also after a cancellation; any other that
 -- ties with it cancels it.
-unfoldable pub fgbio_step : Scan → ℕ → Float → Scan
+unfoldable pub fgbio_taken : Option Lead → ℕ → Float → Lead
+fgbio_taken None k x = new_lead x k
+fgbio_taken (Some l) k x =
+    if lt l.best x then new_lead x k
+    else if fgbio_tie x l.best then cancelled l
+    else l
+
+-- One lane under FgbioCompat: a NaN is skipped.
+unfoldable pub fgbio_step : Option Lead → ℕ → Float → Option Lead
 fgbio_step r k x =
     if is_nan x then r
-    else if not r.seen || lt r.best x then new_lead x k
-    else if fgbio_tie x r.best then cancelled r
-    else r
+    else Some (fgbio_taken r k x)
+
+-- before the first lane under FgbioCompat: none was taken
+abbrev pub unseen : Option Lead
+unseen = None
 
 -- one lane under UlpRelative: any above the running maximum takes over
-unfoldable pub ulp_step : Scan → ℕ → Float → Scan
-ulp_step r k x =
-    if lt r.best x then new_lead x k
-    else r
-
--- the first n lanes
-unfoldable pub scan : (Scan → ℕ → Float → Scan) → Scan → List Float → ℕ → Scan
-scan step r xs zero = r
-scan step r xs (suc n) = step (scan step r xs n) n (lane xs n)
-
--- before the first lane under FgbioCompat: none was taken, so that the maximum is not asked
-abbrev pub unseen : Scan
-unseen = record { seen = false; best = plus_zero; at = no_lane }
-
--- before the first lane under UlpRelative: a maximum of -infinity
-abbrev pub below_every : Scan
-below_every = record { seen = false; best = ln_zero; at = no_lane }
+unfoldable pub ulp_step : Lead → ℕ → Float → Lead
+ulp_step l k x =
+    if lt l.best x then new_lead x k
+    else l
 
 -- ---- the lane that a rule names
 
 -- fgbio's: the lane of the maximum, none after a cancellation
 unfoldable pub fgbio_unique_max_index : List Float → ℕ
-fgbio_unique_max_index xs = (scan fgbio_step unseen xs 4).at
+fgbio_unique_max_index xs = lane_number (option_and_then (λ l. l.at) (scan fgbio_step unseen xs 4))
 
 -- the lane of the maximum, if that is finite and no other lane ties with it
 unfoldable pub unique_max_index : List Float → ℕ
 unique_max_index xs =
-    let r = scan ulp_step below_every xs 4 in
-    if finite r.best && untied UlpRelative xs r.at r.best then r.at
+    let l = scan ulp_step below_every xs 4 in
+    let i = lane_number l.at in
+    if finite l.best && untied UlpRelative xs i l.best then i
     else no_lane
 
 -- a winning -infinity is no call

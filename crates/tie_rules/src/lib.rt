@@ -6,6 +6,6 @@ mod lead;
 mod tie_rule;
 mod unique_max;
 
-pub use lane::{NO_LANE, base_of, is_base, lane_of, lanes_after};
-pub use tie_rule::{TieRule, fgbio_tie, max_lane_with, rule_of, ties_with, ulp_tie, untied};
-pub use unique_max::{UniqueMax, fgbio_unique_max_index, unique_max_index, unique_max_index_with};
+pub use lane::{base_of, is_base, lane_of, lanes_after};
+pub use tie_rule::{TieRule, fgbio_tie, ties_with, ulp_tie, untied};
+pub use unique_max::{fgbio_unique_max_index, unique_max_index, unique_max_index_with};

@@ -1,52 +1,77 @@
-// The lane of the one maximum, as the source's three functions answer it. What runs inside a call goes
-// on with the lane's number (`max_lane_with`).
-ghost use Rattle.std.specs.Prelude.{◌≡◌};
-ghost use Rattle.tie_rules.specs.Ties.{fgbio_unique_max_index, unique_max_index, unique_max_index_with};
-ghost use Rattle.tie_rules.specs.UniqueMax.{lane_number, unique_max_at};
+// The lane of the one maximum, as the source's three functions answer it. A call asks the third.
+ghost use Rattle.std.specs.Prelude.{◌≡◌, ◌<◌, IfSome};
+ghost use Rattle.tie_rules.specs.Ties.{fgbio_step, ulp_step, fgbio_unique_max_index, unique_max_index, unique_max_index_with};
+ghost use Rattle.tie_rules.specs.UniqueMax.{lane_number, named_lane};
 
-use crate::lane::NO_LANE;
-use crate::tie_rule::{TieRule, fgbio_scan, max_lane, max_lane_with};
+use crate::lead::{Lead, below_every, fgbio_lead, scan};
+use crate::tie_rule::{TieRule, fgbio_tie, none_ties};
 
-// The source's Option of a lane.
-#[derive(Clone, Copy)]
-pub enum UniqueMax {
-    // The lane that the rule names.
-    Lane(usize),
-    // It names none: a tie, or no maximum that it calls.
-    NoLane,
-}
-
-// The answer that has a lane's number.
-fn unique_max_at(lane: usize) -> UniqueMax
-    ensures { result ≡ unique_max_at lane }
+// One lane of fgbio's scan: nothing leads before the first number.
+#[tactic(auto, unfolding(crate::specs::Ties::fgbio_step, crate::specs::Ties::fgbio_taken))]
+fn fgbio_step(run: Option<Lead>, k: usize, x: f64) -> Option<Lead>
+    ensures { result ≡ fgbio_step run k x }
 {
-    if lane < NO_LANE {
-        return UniqueMax::Lane(lane);
+    if x.is_nan() {
+        return run;
     }
-    UniqueMax::NoLane
+    let takes_over = Some(Lead {
+        best: x,
+        at: Some(k),
+    });
+    match run {
+        None => takes_over,
+        Some(lead) if lead.best < x => takes_over,
+        Some(lead) if fgbio_tie(x, lead.best) => Some(Lead { at: None, ..lead }),
+        Some(_) => run,
+    }
 }
 
 // Under fgbio's rule, by the source's scan. No call runs it: under this rule a call asks `fgbio_lead`,
 // whose shorter scan leaves out a winning -infinity, as `unique_max_index_with` does.
-pub fn fgbio_unique_max_index(likelihoods: [f64; 4]) -> UniqueMax
-    ensures answer { result ≡ unique_max_at (fgbio_unique_max_index likelihoods) }
+pub fn fgbio_unique_max_index(likelihoods: [f64; 4]) -> Option<usize>
+    ensures answer { result ≡ named_lane (fgbio_unique_max_index likelihoods) }
     ensures lane { lane_number result ≡ fgbio_unique_max_index likelihoods }
+    ensures inside { IfSome result (λ i. i < 4) }
 {
-    unique_max_at(fgbio_scan(likelihoods).at)
+    scan(fgbio_step, None, likelihoods)?.at
+}
+
+// One lane of the search for the maximum.
+#[tactic(auto, unfolding(crate::specs::Ties::ulp_step))]
+fn ulp_step(lead: Lead, k: usize, x: f64) -> Lead
+    ensures { result ≡ ulp_step lead k x }
+{
+    if lead.best < x {
+        return Lead {
+            best: x,
+            at: Some(k),
+        };
+    }
+    lead
 }
 
 // The maximum if it is finite and no other lane is within 4 units in the last place.
-pub fn unique_max_index(likelihoods: [f64; 4]) -> UniqueMax
-    ensures answer { result ≡ unique_max_at (unique_max_index likelihoods) }
+pub fn unique_max_index(likelihoods: [f64; 4]) -> Option<usize>
+    ensures answer { result ≡ named_lane (unique_max_index likelihoods) }
     ensures lane { lane_number result ≡ unique_max_index likelihoods }
+    ensures inside { IfSome result (λ i. i < 4) }
 {
-    unique_max_at(max_lane(likelihoods))
+    let lead = scan(ulp_step, below_every(), likelihoods);
+    let i = lead.at?;
+    if lead.best.is_finite() && none_ties(TieRule::UlpRelative, likelihoods, i, lead.best) {
+        return Some(i);
+    }
+    None
 }
 
-// By the rule.
-pub fn unique_max_index_with(likelihoods: [f64; 4], rule: TieRule) -> UniqueMax
-    ensures answer { result ≡ unique_max_at (unique_max_index_with likelihoods rule) }
+// By the rule: what every call asks.
+pub fn unique_max_index_with(likelihoods: [f64; 4], rule: TieRule) -> Option<usize>
+    ensures answer { result ≡ named_lane (unique_max_index_with likelihoods rule) }
     ensures lane { lane_number result ≡ unique_max_index_with likelihoods rule }
+    ensures inside { IfSome result (λ i. i < 4) }
 {
-    unique_max_at(max_lane_with(likelihoods, rule))
+    match rule {
+        TieRule::UlpRelative => unique_max_index(likelihoods),
+        TieRule::FgbioCompat => fgbio_lead(likelihoods),
+    }
 }

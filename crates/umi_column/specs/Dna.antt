@@ -1,7 +1,7 @@
 -- Which bytes count as DNA.
+use Rattle.std.specs.List.{list_any}
 use Rattle.std.specs.Prelude.{ℕ, ◌-◌, Bool, ◌&&◌, List, [], ◌∷◌, leb, eqb}
 use Rattle.std.specs.Prelude.{if◌then◌else◌}
-use Rattle.words.specs.Lists.{any}
 
 -- A, C, G, T and N: the source's DNA_BASES
 abbrev pub dna_bases : List ℕ
@@ -15,4 +15,4 @@ to_ascii_uppercase x =
 
 -- one of them, in either case
 unfoldable pub is_dna_base : ℕ → Bool
-is_dna_base x = any (λ b. eqb (to_ascii_uppercase x) b) dna_bases
+is_dna_base x = list_any (λ b. eqb (to_ascii_uppercase x) b) dna_bases

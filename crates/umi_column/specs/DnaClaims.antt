@@ -1,8 +1,8 @@
 -- Which bytes count as DNA, in claims that are computed.
+use Rattle.std.specs.List.{list_any}
 use Rattle.std.specs.Prelude.{ℕ, Bool, List, [], ◌∷◌, eqb}
 use Rattle.std.specs.Bool.{beq}
 use Rattle.words.specs.Claims.{every_from}
-use Rattle.words.specs.Lists.{any}
 use Rattle.umi_column.specs.Dna.{is_dna_base}
 
 -- ACGTN and acgtn
@@ -11,7 +11,7 @@ dna_letters = 65 ∷ 67 ∷ 71 ∷ 84 ∷ 78 ∷ 97 ∷ 99 ∷ 103 ∷ 116 ∷ 1
 
 -- one of the ten
 unfoldable pub is_dna_letter : ℕ → Bool
-is_dna_letter x = any (λ b. eqb x b) dna_letters
+is_dna_letter x = list_any (λ b. eqb x b) dna_letters
 
 -- a byte counts as DNA exactly where it is one of the ten
 unfoldable pub dna_at : ℕ → Bool

@@ -1,10 +1,12 @@
 -- Loops over the columns: their sums, and what all of them give. Assumes nothing.
 use mathlib.Core.Path.{◌≡◌, refl, sym, ◌∙◌, ap}
-use mathlib.Core.List.{List, [], ◌∷◌, map}
+use mathlib.Core.List.{List, [], ◌∷◌, ◌++◌, map}
 use Prim.Native.Nat.{ℕ, zero, suc, ◌+◌, ◌-◌, ◌≤◌, ◌<◌}
 use native.Mathlib.Omega.{arith}
 use lib.Ieee.{Float}
-use lib.ListN.{length, take, drop, set, get_or, length-map, length-set, drop_of_length-le}
+use lib.ListN.{length, take, drop, set, get_or, length-map, length-set, length-append, length-drop, drop_of_length-le}
+use lib.Seq.{take-take, length-take-le}
+use Rattle.std.proofs.lemmas.List.{take-append-le}
 use Rattle.words.specs.Lists.{last_or, byte_at}
 use Rattle.lent_bytes.proofs.Lists.{bytes_from}
 use Rattle.words.specs.Lists.{listed}
@@ -44,12 +46,24 @@ module _ (w : ℕ) (s ps : List ℕ) where
   summed_length window rule = length-map (row_columns_at w s ps) _ ∙ columns_length w s ps
 
   -- a column more
-  pub column-more : (window : List Float) (rule : TieRule) (text : List ℕ) (at x : ℕ) → length text ≡ w → at < w → x ≡ byte_summed window rule (bytes_at at s ps)
+  pub column-more : (window : List Float) (rule : TieRule) (text : List ℕ) (at x : ℕ) → at < length text → at < w → x ≡ byte_summed window rule (bytes_at at s ps)
       → take at text ≡ take at (bytes_summed window rule (row_columns_at w s ps)) → take (at + 1) (set text at x) ≡ take (at + 1) (bytes_summed window rule (row_columns_at w s ps))
-  column-more window rule text at x n h e told =
+  column-more window rule text at x inside h e told =
       let bytes = bytes_summed window rule (row_columns_at w s ps) in
       let size : length bytes ≡ w = summed_length window rule in
-      filled_more text bytes at 0 x (omega arith) (omega arith) (e ∙ sym (summed_at window rule at h)) told
+      filled_more text bytes at 0 x (omega arith) inside (e ∙ sym (summed_at window rule at h)) told
+
+-- a text of which the front is written
+pub front_told : (n : ℕ) (text front bytes : List ℕ) → n ≤ length text → n ≤ length bytes → front ≡ take (length (take n text)) bytes
+    → (length (front ++ drop n text) ≡ length text) × (take n (front ++ drop n text) ≡ take n bytes)
+front_told n text front bytes h m e =
+    let size : length (take n text) ≡ n = length-take-le n text h in
+    let same : front ≡ take n bytes = rw size at e in
+    let long : length front ≡ n = ap length same ∙ length-take-le n bytes m in
+    let inside : n ≤ length front = omega arith in (
+      simp (length-append, length-drop) (omega arith),
+      take-append-le n front (drop n text) inside ∙ ap (take n) same ∙ take-take n n bytes (omega arith),
+    )
 
 -- ---- what all columns give
 map_listed : (f g : List ℕ → ℕ) (column : ℕ → List ℕ) (a n : ℕ) → ((k : ℕ) → f (column k) ≡ g (column k)) → map f (listed column a n) ≡ map g (listed column a n)

@@ -2,13 +2,13 @@
 use mathlib.Core.Path.{◌≡◌, refl, ◌∙◌, ap}
 use mathlib.Core.Bool.{Bool, true, false}
 use mathlib.Core.List.{List}
-use Prim.Native.Nat.{ℕ, suc, ◌+◌, ◌-◌, ◌≤◌, ◌<◌}
+use Prim.Native.Nat.{ℕ, suc, ◌+◌, ◌≤◌, ◌<◌}
 use native.Mathlib.Nat.{not-suc-le-zero}
 use native.Mathlib.Omega.{arith}
 use borrow.Author.Count.{below_more}
 use lib.Dec.{T, eqb, eqb→eq}
-use lib.ListN.{length, take, drop, set, get_or-replicate, length-set, length-drop, replicate, drop_of_length-le}
-use lib.Seq.{get_or-set_same, get_or-set_other, get_or-take, get_or-drop, length-take-le}
+use lib.ListN.{length, take, drop, set, get_or-replicate, length-set, replicate, drop_of_length-le}
+use lib.Seq.{get_or-set_same, get_or-set_other, get_or-take, get_or-drop}
 use Rattle.std.specs.Prelude.{if◌then◌else◌}
 use Rattle.words.specs.Claims.{every_from}
 use Rattle.words.proofs.Claims.{below}
@@ -18,7 +18,7 @@ use Rattle.tie_rules.specs.Lanes.{lane_of_byte}
 use Rattle.umi_count_laws.specs.Counts.{times_observed}
 use Rattle.umi_rows.specs.Rows.{bytes_at}
 use Rattle.umi_family.specs.Counts.{hit_by, one_in, CountsRoom, Counted, CountsOf}
-use Rattle.umi_rows.proofs.RowLoops.{given_length, given_at, row_lent}
+use Rattle.umi_rows.proofs.RowLoops.{given_length, given_at}
 
 -- ---- the two letters of each lane, computed at all 256 bytes
 unfoldable letters_at : ℕ → ℕ → ℕ → ℕ → Bool
@@ -48,9 +48,6 @@ module _ (i : ℕ) (row before : List ℕ) where
   passed_none = (refl, (λ k h. absurd (not-suc-le-zero h)), (λ k h. refl))
 
   module _ (n : ℕ) (after : List ℕ) (p : Passed i row n before after) (h : n < length row) (room : CountsRoom (length row) before) where
-    pub passed_room : (one : ℕ) → one ≤ 1 → byte_at after n + one < 256
-    passed_room one m = omega (arith, room.1 n h, p.2 n (omega arith))
-
     pub passed_more : (v : ℕ) → v ≡ byte_at after n + one_in i (byte_at row n) → Passed i row (n + 1) before (set after n v)
     passed_more v e =
         let inside : n < length after = omega (arith, p.0, room.0) in
@@ -65,10 +62,6 @@ module _ (i : ℕ) (row before : List ℕ) where
 
   pub passed_all : (n : ℕ) (after : List ℕ) → length row ≤ n → Passed i row n before after → Counted i row before after
   passed_all n after h p = (p.0, λ k l. p.1 k (omega arith))
-
--- w bytes of a set, lent by their start and their end
-pub row_size : (s : List ℕ) (from w : ℕ) → from + w ≤ length s → length (take (from + w - from) (drop from s)) ≡ w
-row_size s from w h = ap length (row_lent s from w) ∙ length-take-le w (drop from s) (rw (length-drop from s) (omega arith))
 
 -- ---- the strings, of which k are passed: with those of the strings left, the counts are the columns'
 one_more : (b : Bool) (n : ℕ) → (if b then suc n else n) ≡ (if b then 1 else 0) + n

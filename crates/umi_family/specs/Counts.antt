@@ -1,10 +1,11 @@
 -- As it is run; `named_by_counts` (umi_count_laws/proofs/Named) joins it to the lane that the rule names: how many of the strings have a base at each place.
-use Rattle.std.specs.Prelude.{◌≡◌, ◌||◌, List, ◌≢◌, ℕ, ◌+◌, ◌≤◌, ◌<◌, eqb, length, get_or}
+use Rattle.std.specs.Prelude.{◌≡◌, ◌||◌, List, [], ◌∷◌, ◌≢◌, ℕ, ◌+◌, ◌≤◌, ◌<◌, eqb, length, get_or}
 use Rattle.std.specs.Prelude.{if◌then◌else◌}
 use Rattle.words.specs.Lists.{byte_at}
 use Rattle.tie_rules.specs.Lanes.{lane_of_byte}
 use Rattle.umi_count_laws.specs.Counts.{times_observed}
 use Rattle.umi_rows.specs.Rows.{bytes_at}
+use Rattle.umi_family.specs.declared.counts.Counts.{Counts}
 
 -- 1 for either letter, and 0 for any other byte
 abbrev pub hit_by : ℕ → ℕ → ℕ → ℕ
@@ -17,6 +18,10 @@ abbrev pub one_in : ℕ → ℕ → ℕ
 one_in i x =
     if eqb (lane_of_byte x) i then 1
     else 0
+
+-- those of lane i
+abbrev pub lane_counts : Counts → ℕ → List ℕ
+lane_counts counts i = get_or (counts.a ∷ counts.c ∷ counts.g ∷ counts.t ∷ []) i []
 
 -- one more can be counted at each of w places
 abbrev pub CountsRoom : ℕ → List ℕ → Type 0

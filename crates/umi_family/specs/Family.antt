@@ -1,7 +1,8 @@
 -- As it is run; `group_said` (simple_consensus/proofs/Groups) joins it to `consensus_of`: what a family's columns give.
+use Rattle.std.specs.List.{list_any}
 use Rattle.std.specs.Prelude.{false, List, map, ℕ, Float, length}
 use Rattle.std.specs.Prelude.{if◌then◌else◌}
-use Rattle.words.specs.Lists.{any, last_or, byte_at}
+use Rattle.words.specs.Lists.{last_or, byte_at}
 use Rattle.tie_rules.specs.declared.tie_rule.TieRule.{TieRule}
 use Rattle.rate_tables.specs.declared.adjusted.AdjustedEntry.{AdjustedEntry}
 use Rattle.base_builder.specs.declared.builder.ConsensusBaseBuilder.{ConsensusBaseBuilder}
@@ -42,7 +43,7 @@ unfoldable pub called_at : AdjustedEntry → ConsensusBaseBuilder → List ℕ �
 called_at e b s ps text =
     if fitting (length text) s ps then
     record {
-      had_errors = any (differs_from (text_at e b s ps text)) (rows_at (length text) s ps);
+      had_errors = list_any (differs_from (text_at e b s ps text)) (rows_at (length text) s ps);
       builder = last_by e b (row_columns_at (length text) s ps);
     }
     else record { had_errors = false; builder = b }

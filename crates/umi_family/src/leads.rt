@@ -1,71 +1,59 @@
 // The columns by the counts of their bases.
-ghost use Rattle.std.specs.Prelude.{◌≡◌, ◌+◌, ◌-◌, ◌≤◌, ◌<◌, length, take};
+ghost use Rattle.std.specs.Prelude.{◌≡◌, ℕ, ◌≤◌, ◌<◌, length, take, IfSome};
 ghost use Rattle.tie_rules.specs.declared.tie_rule.TieRule.TheVariants.{FgbioCompat};
 ghost use Rattle.tie_rules.specs.Ties.{unique_max_index_with};
 ghost use Rattle.umi_column.specs.Sums.{no_sums, summed_all};
 ghost use Rattle.umi_count_laws.specs.Named.{Faithful};
-ghost use Rattle.umi_rows.specs.Rows.{RowsFit, bytes_at, row_columns_at};
-ghost use Rattle.umi_family.specs.Counts.{CountsOf};
+ghost use Rattle.umi_rows.specs.Rows.{bytes_at, row_columns_at};
+ghost use Rattle.umi_family.specs.Counts.{lane_counts, CountsOf};
 ghost use Rattle.umi_family.specs.Family.{byte_summed, bytes_summed};
 
 use crate::by_sums::summed_byte;
-use crate::counts::{count_row, leader};
+use crate::counts::{Counts, leader};
 use tie_rules::{TieRule, base_of};
 use umi_column::is_dna_base;
+use umi_rows::Family;
 
 // The byte of a column that a lane leads. Where none does, it is summed.
-fn led_byte(lead: usize, window: &[f64; 8], set: &[u8], places: &[usize], at: usize) -> u8
-    requires { RowsFit (at + 1) set.now places.now × (lead < 4 → unique_max_index_with (summed_all window.now (bytes_at at set.now places.now) no_sums).likelihoods FgbioCompat ≡ lead) }
-    ensures { result ≡ byte_summed window.now FgbioCompat (bytes_at at set.now places.now) }
+fn led_byte(lead: Option<usize>, window: &[f64; 8], family: &Family, at: usize) -> u8
+    requires inside { at < family.now.width }
+    requires named { IfSome lead (λ i. unique_max_index_with (summed_all window.now (bytes_at at family.now.set.now family.now.places.now) no_sums).likelihoods FgbioCompat ≡ i) }
+    ensures { result ≡ byte_summed window.now FgbioCompat (bytes_at at family.now.set.now family.now.places.now) }
 {
-    let first = set[places[0] + 1 + at];
+    let first = family.first()[at];
     if !is_dna_base(first) {
         return first;
     }
-    if lead < 4 {
-        return base_of(lead);
+    match lead {
+        Some(_) => base_of(lead),
+        None => summed_byte(TieRule::FgbioCompat, window, family, at),
     }
-    summed_byte(TieRule::FgbioCompat, window, set, places, at)
 }
 
-// The bytes of all columns but the last, by the counts of A, C, G and T at each place.
-fn call_leads(
-    window: &[f64; 8],
-    set: &[u8],
-    places: &[usize],
-    a: &[u8; 255],
-    c: &[u8; 255],
-    g: &[u8; 255],
-    t: &[u8; 255],
-    text: &mut [u8],
-)
-    requires { Faithful window.now × RowsFit (length text.old) set.now places.now × (length text.old ≤ 255) × CountsOf 0 (length text.old) set.now places.now a.now × CountsOf 1 (length text.old) set.now places.now c.now × CountsOf 2 (length text.old) set.now places.now g.now × CountsOf 3 (length text.old) set.now places.now t.now }
-    ensures { take (length text.old - 1) text.new ≡ take (length text.old - 1) (bytes_summed window.now FgbioCompat (row_columns_at (length text.old) set.now places.now)) }
+// The bytes of the first columns, one for each place of the text, by the counts of A, C, G and T.
+fn call_leads(window: &[f64; 8], family: &Family, counts: &Counts, text: &mut [u8])
+    requires faithful { Faithful window.now }
+    requires inside { length text.old ≤ family.now.width }
+    requires short { family.now.width ≤ 255 }
+    requires counted { (i : ℕ) → i < 4 → CountsOf i family.now.width family.now.set.now family.now.places.now (lane_counts counts.now i) }
+    ensures { text.new ≡ take (length text.old) (bytes_summed window.now FgbioCompat (row_columns_at family.now.width family.now.set.now family.now.places.now)) }
 {
-    let mut at = 0;
-    while at + 1 < text.len() {
-        let lead = leader(a[at], c[at], g[at], t[at]);
-        text[at] = led_byte(lead, window, set, places, at);
-        at += 1;
+    for (at, byte) in text.iter_mut().enumerate() {
+        let lead = leader(counts.a[at], counts.c[at], counts.g[at], counts.t[at]);
+        *byte = led_byte(lead, window, family, at);
     }
 }
 
 // The same, with the counts: string by string, since their bytes lie side by side.
-pub(crate) fn call_counted(window: &[f64; 8], set: &[u8], places: &[usize], text: &mut [u8])
-    requires { Faithful window.now × RowsFit (length text.old) set.now places.now × (length text.old ≤ 255) }
-    ensures { take (length text.old - 1) text.new ≡ take (length text.old - 1) (bytes_summed window.now FgbioCompat (row_columns_at (length text.old) set.now places.now)) }
+pub(crate) fn call_counted(window: &[f64; 8], family: &Family, text: &mut [u8])
+    requires faithful { Faithful window.now }
+    requires inside { length text.old ≤ family.now.width }
+    requires short { family.now.width ≤ 255 }
+    ensures { text.new ≡ take (length text.old) (bytes_summed window.now FgbioCompat (row_columns_at family.now.width family.now.set.now family.now.places.now)) }
 {
-    let mut a = [0u8; 255];
-    let mut c = [0u8; 255];
-    let mut g = [0u8; 255];
-    let mut t = [0u8; 255];
-    let width = text.len();
-    let mut k = 0;
-    while k < places.len() {
-        let from = places[k] + 1;
-        let end = from + width;
-        count_row(&set[from..end], &mut a, &mut c, &mut g, &mut t);
-        k += 1;
+    let mut counts = Counts::none();
+    for row in family.rows() {
+        counts.count_row(row);
     }
-    call_leads(window, set, places, &a, &c, &g, &t, text);
+    call_leads(window, family, &counts, text);
 }

@@ -1,4 +1,5 @@
 -- A group by cases: no string, a family, and otherwise the first string. Assumes nothing.
+use Rattle.std.specs.Prelude.{Err, Ok}
 use mathlib.Core.Path.{◌≡◌, refl, sym, ◌∙◌, ap}
 use mathlib.Core.Bool.{Bool, true, false, not, ◌&&◌}
 use mathlib.Core.List.{List, [], ◌∷◌, ◌++◌}
@@ -14,13 +15,11 @@ use Rattle.words.specs.Lists.{byte_at, is_empty}
 use Rattle.lent_bytes.specs.Buffer.{written}
 use Rattle.refusals.specs.declared.Refusal.{Refusal}
 use Rattle.refusals.specs.declared.Refusal.TheVariants.{CutOff, BufferTooShort}
-use Rattle.refusals.specs.declared.Verdict.{Verdict}
-use Rattle.refusals.specs.declared.Verdict.TheVariants.{Sound, Refused}
-use Rattle.refusals.specs.Result.{Result, refused, accepted, judged, and_then}
+use Rattle.refusals.specs.Result.{judged, and_then, Verdict}
 use Rattle.rate_tables.specs.declared.adjusted.AdjustedEntry.{AdjustedEntry}
 use Rattle.base_builder.specs.declared.builder.ConsensusBaseBuilder.{ConsensusBaseBuilder}
 use Rattle.umi_rows.specs.Rows.{RowsFit, fitting, bytes_at, row_columns_at}
-use Rattle.umi_rows.proofs.RowLoops.{fits, fit_so}
+use Rattle.umi_rows.proofs.RowLoops.{fit_so}
 use Rattle.umi_verdicts.specs.FamilyVerdicts.{verdict_at}
 use Rattle.umi_family.specs.declared.calls.Called.{Called}
 use Rattle.umi_family.specs.Family.{bytes_by, text_at, called_at}
@@ -29,11 +28,11 @@ use Rattle.umi_groups.specs.Groups.{lengths_alike, entry_at, family_at, first_at
 use Rattle.umi_groups.proofs.Room.{room_short, room_enough}
 
 -- where nothing is refused the strings lie in the set
-sound_fits : (w : ℕ) (s ps : List ℕ) → verdict_at w s ps ≡ Sound → fitting w s ps ≡ true
+sound_fits : (w : ℕ) (s ps : List ℕ) → verdict_at w s ps ≡ Ok tt → fitting w s ps ≡ true
 unfolding verdict_at
 sound_fits w s ps v =
     test (fitting w s ps) (λ h. h) (λ h.
-    let free : Refused CutOff ≡ Sound = rw h at v in
+    let free : Err CutOff ≡ Ok tt = rw h at v in
     let z : ◌≡◌ {A = ℕ} 0 1 = cc in
     absurd (omega arith))
 
@@ -57,18 +56,18 @@ module _ (e : AdjustedEntry) (b : ConsensusBaseBuilder) (w : ℕ) (s ps : List �
   text_length = length-map (row_columns_at w s ps) _ ∙ listed_length (λ k. bytes_at k s ps) 0 w
 
   module _ (out : List ℕ) where
-    pub family_refused : (r : Refusal) → verdict_at w s ps ≡ Refused r → and_then (family_at e b w s ps) (room_for out) ≡ refused r
+    pub family_refused : (r : Refusal) → verdict_at w s ps ≡ Err r → and_then (family_at e b w s ps) (room_for out) ≡ Err r
     unfolding family_at
     family_refused r v = rw v
 
-    module _ (v : verdict_at w s ps ≡ Sound) where
-      pub family_short : length out < w → and_then (family_at e b w s ps) (room_for out) ≡ refused BufferTooShort
+    module _ (v : verdict_at w s ps ≡ Ok tt) where
+      pub family_short : length out < w → and_then (family_at e b w s ps) (room_for out) ≡ Err BufferTooShort
       unfolding family_at
       family_short h = rw v (room_short out _ (rw text_length h))
 
       -- what `call_family` gives with a text of the strings' width, in front of the buffer
       pub family_given : w ≤ length out → (called : Called) → called ≡ called_at e b s ps (take w out) → (after : List ℕ) → after ≡ text_at e b s ps (take w out)
-          → (and_then (family_at e b w s ps) (room_for out) ≡ accepted (found_by after called.had_errors called.builder))
+          → (and_then (family_at e b w s ps) (room_for out) ≡ Ok (found_by after called.had_errors called.builder))
           × ((w ≡ length after) × (after ++ drop w out ≡ written after out))
       unfolding family_at called_at text_at written
       family_given h called f after g =
@@ -79,41 +78,39 @@ module _ (e : AdjustedEntry) (b : ConsensusBaseBuilder) (w : ℕ) (s ps : List �
 
 -- ---- the first string alone
 module _ (w : ℕ) (s ps : List ℕ) (some : 0 < length ps) where
-  one_place : (length (take 1 ps) ≡ 1) × (byte_at (take 1 ps) 0 ≡ byte_at ps 0)
+  pub one_place : (length (take 1 ps) ≡ 1) × (byte_at (take 1 ps) 0 ≡ byte_at ps 0)
   one_place = (length-take-le 1 ps some, get_or-take 1 ps 0 0 (omega arith))
 
-  -- it lies in the set
-  pub first_inside : fitting w s (take 1 ps) ≡ true → byte_at ps 0 + 1 + w ≤ length s
-  first_inside h = rw one_place.1 at ((fits w s (take 1 ps) h).2 0 (omega (arith, one_place.0)))
-
-  pub first_length : fitting w s (take 1 ps) ≡ true → length (take w (drop (byte_at ps 0 + 1) s)) ≡ w
-  first_length h = length-take-le w (drop (byte_at ps 0 + 1) s) (rw (length-drop (byte_at ps 0 + 1) s) (omega (arith, first_inside h)))
+  pub first_length : RowsFit w s (take 1 ps) → length (take w (drop (byte_at ps 0 + 1) s)) ≡ w
+  first_length fit =
+      let inside : byte_at ps 0 + 1 + w ≤ length s = rw one_place.1 at (fit.inside 0 (omega (arith, one_place.0))) in
+      length-take-le w (drop (byte_at ps 0 + 1) s) (rw (length-drop (byte_at ps 0 + 1) s) (omega (arith, inside)))
 
   pub first_fits : byte_at ps 0 + 1 + w ≤ length s → fitting w s (take 1 ps) ≡ true
   first_fits h =
       let one = one_place.0 in
-      fit_so w s (take 1 ps) (omega arith, omega arith, λ k l. let first : k ≡ 0 = omega arith in rw (first, one_place.1) h)
+      fit_so w s (take 1 ps) (record { some = omega arith; few = omega arith; inside = λ k l. let first : k ≡ 0 = omega arith in rw (first, one_place.1) h })
 
 module _ (b : ConsensusBaseBuilder) (flag : Bool) (w : ℕ) (s ps : List ℕ) where
   pub first_found_lem : fitting w s (take 1 ps) ≡ true
-      → first_at b flag w s ps ≡ accepted (found_by (take w (drop (byte_at ps 0 + 1) s)) flag b)
+      → first_at b flag w s ps ≡ Ok (found_by (take w (drop (byte_at ps 0 + 1) s)) flag b)
   unfolding first_at
   first_found_lem h = rw h
 
-  pub first_cut_off : fitting w s (take 1 ps) ≡ false → first_at b flag w s ps ≡ refused CutOff
+  pub first_cut_off : fitting w s (take 1 ps) ≡ false → first_at b flag w s ps ≡ Err CutOff
   unfolding first_at
   first_cut_off h = rw h
 
 -- ---- any group
 judged_few : (n : ℕ) (v : Verdict) (f : Found) → length f.text ≤ n → found_length (judged v f) ≤ n
-judged_few n Sound f h = h
-judged_few n (Refused r) f h = omega arith
+judged_few n (Ok _) f h = h
+judged_few n (Err r) f h = omega arith
 
 module _ (post q : ℕ) (b : ConsensusBaseBuilder) (trim : ℕ) (s ps : List ℕ) where
   abbrev width : ℕ
   width = byte_at s (byte_at ps 0) - trim
 
-  pub group_none : length ps ≡ 0 → group_at post q b trim s ps ≡ accepted (found_by [] false b)
+  pub group_none : length ps ≡ 0 → group_at post q b trim s ps ≡ Ok (found_by [] false b)
   unfolding group_at
   group_none h = rw (none_empty ps h)
 

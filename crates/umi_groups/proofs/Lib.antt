@@ -1,3 +1,3 @@
-pub mod LengthLoops
+pub mod Mapped
 pub mod Room
 pub mod Groups

@@ -2,10 +2,8 @@
 // the first string is the answer.
 #![tactic(auto)]
 
-mod answers;
 mod group;
-mod lengths;
+mod strings;
 
-pub use answers::{FlaggedAnswer, Group};
-pub use group::consensus_group;
-pub use lengths::alike;
+pub use group::{Group, consensus_group};
+pub use strings::Strings;

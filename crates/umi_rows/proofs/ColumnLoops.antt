@@ -8,8 +8,8 @@ use native.Mathlib.Omega.{arith}
 use borrow.Author.Count.{below_none, below_more}
 use borrow.Author.Tests.{ltb-true, ltb-false}
 use lib.Dec.{ltb}
-use lib.ListN.{length, take, set, get_or, replicate, length-replicate, get_or-replicate, get_or-eq_default}
-use lib.Seq.{take-suc, take-suc-set, take-take, take_all, length-take-le, get_or-take, get_or-set_same, get_or-set_other, ext_get_or}
+use lib.ListN.{length, take, drop, set, get_or, replicate, length-replicate, get_or-replicate, get_or-eq_default}
+use lib.Seq.{take-suc, take-suc-set, take_all, length-take-le, get_or-take, get_or-drop, get_or-set_same, get_or-set_other, ext_get_or}
 use Rattle.words.proofs.Cases.{test}
 use Rattle.words.specs.Lists.{byte_at, listed}
 use Rattle.words.proofs.Listed.{listed_length, level_at}
@@ -21,15 +21,17 @@ module _ {A : Type 0} (out l : List A) (k : ℕ) where
   pub filled_more : (d v : A) → k < length l → k < length out → v ≡ get_or l k d → take k out ≡ take k l → take (k + 1) (set out k v) ≡ take (k + 1) l
   filled_more d v h g w e = rw (add-one k, take-suc-set out k v g, take-suc l k d h, e, w)
 
-  pub filled_less : (j : ℕ) → j ≤ k → take k out ≡ take k l → take j out ≡ take j l
-  filled_less j h e = sym (take-take j k out h) ∙ ap (take j) e ∙ take-take j k l h
-
   pub filled : length out ≤ k → length l ≤ k → take k out ≡ take k l → out ≡ l
   filled h g e = sym (take_all k out h) ∙ e ∙ take_all k l g
 
 -- ---- the columns
 pub first_byte : (s ps : List ℕ) (at : ℕ) → 0 < length ps → byte_at (bytes_at at s ps) 0 ≡ byte_at s (byte_at ps 0 + 1 + at)
 first_byte s ps at h = given_at _ ps 0 0 h
+
+-- read in the first string
+pub first_at : (w : ℕ) (s ps : List ℕ) (at : ℕ) (first : List ℕ) → 0 < length ps → at < w → first ≡ take w (drop (byte_at ps 0 + 1) s) → byte_at first at ≡ byte_at (bytes_at at s ps) 0
+first_at w s ps at first some h e =
+    ap (λ (l : List ℕ). byte_at l at) e ∙ get_or-take w (drop (byte_at ps 0 + 1) s) at 0 h ∙ get_or-drop (byte_at ps 0 + 1) s at 0 ∙ sym (first_byte s ps at some)
 
 module _ (w : ℕ) (s ps : List ℕ) where
   pub columns_length : length (row_columns_at w s ps) ≡ w
@@ -84,8 +86,5 @@ gathered s ps at column h e =
     (λ i m. get_or-take (length ps) (listed f 0 255) i 0 (omega arith) ∙ level_at f 0 255 i (omega arith)))
 
 module _ (s ps : List ℕ) (at : ℕ) (column : List ℕ) (e : take (length ps) column ≡ bytes_at at s ps) where
-  pub gathered_count : length ps ≡ length (take (length ps) column)
-  gathered_count = sym (ap length e ∙ given_length _ ps)
-
   pub gathered_first : 0 < length ps → byte_at column 0 ≡ byte_at (bytes_at at s ps) 0
   gathered_first h = sym (get_or-take (length ps) column 0 0 h) ∙ ap (λ (l : List ℕ). byte_at l 0) e

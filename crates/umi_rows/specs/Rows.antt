@@ -1,15 +1,22 @@
 -- As it is run; `columns_same` (simple_consensus/proofs/Rows) joins it to `columns_of`: strings of one width by the places of their length bytes in a
 -- set. `is_high` and `differs_from`, at the end, are plain.
+use Rattle.std.specs.List.{list_all}
 use Rattle.std.specs.Prelude.{Bool, not, ◌&&◌, List, map, ℕ, ◌+◌, ◌≤◌, ◌<◌, leb, ltb, length, take, drop}
-use Rattle.words.specs.Lists.{every, same_bytes, byte_at, listed}
+use Rattle.words.specs.Lists.{same_bytes, byte_at, listed}
 
 -- there are 1 to 255 places, and w bytes follow each of them
 unfoldable pub fitting : ℕ → List ℕ → List ℕ → Bool
-fitting w s ps = ltb 0 (length ps) && leb (length ps) 255 && every (λ p. leb (p + 1 + w) (length s)) ps
+fitting w s ps = ltb 0 (length ps) && leb (length ps) 255 && list_all (λ p. leb (p + 1 + w) (length s)) ps
 
--- the same as a claim
-abbrev pub RowsFit : ℕ → List ℕ → List ℕ → Type 0
-RowsFit w s ps = (0 < length ps) × (length ps ≤ 255) × ((k : ℕ) → k < length ps → byte_at ps k + 1 + w ≤ length s)
+-- the same as a claim: of each place
+abbrev pub EachFits : ℕ → List ℕ → List ℕ → Type 0
+EachFits w s ps = (k : ℕ) → k < length ps → byte_at ps k + 1 + w ≤ length s
+
+-- and of their number
+pub record RowsFit (w : ℕ) (s ps : List ℕ) : Type 0 where
+  pub some : 0 < length ps
+  pub few : length ps ≤ 255
+  pub inside : EachFits w s ps
 
 -- w bytes after each place
 abbrev pub rows_at : ℕ → List ℕ → List ℕ → List (List ℕ)

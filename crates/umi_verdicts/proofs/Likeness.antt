@@ -1,4 +1,6 @@
 -- Strings each of which is like the first: no byte is 128 or more where none of the first's is, and no column is faulty. Assumes nothing.
+use Rattle.std.specs.Prelude.{Ok}
+use Rattle.std.specs.List.{list_all, list_any}
 use mathlib.Core.Path.{◌≡◌, refl, sym, ◌∙◌, ap, subst}
 use mathlib.Core.Bool.{Bool, true, false, ◌&&◌, ◌||◌, and_assoc}
 use mathlib.Core.List.{List, [], ◌∷◌}
@@ -10,10 +12,9 @@ use lib.Dec.{eqb}
 use lib.ListN.{length, take, drop, length-drop, drop_of_length-le}
 use lib.Seq.{length-take-le, get_or-take, get_or-drop}
 use Rattle.words.proofs.Cases.{test, clash, both, and-false}
-use Rattle.words.specs.Lists.{any, every, byte_at}
+use Rattle.words.specs.Lists.{byte_at}
 use Rattle.words.proofs.Tests.{none_by_every}
 use Rattle.lent_bytes.proofs.Lists.{bytes_from}
-use Rattle.refusals.specs.declared.Verdict.TheVariants.{Sound}
 use Rattle.refusals.specs.Result.{first_refused}
 use Rattle.words.specs.Lists.{listed}
 use Rattle.umi_column.specs.Dna.{to_ascii_uppercase, is_dna_base}
@@ -57,13 +58,13 @@ module _ (f x : ℕ) (like : is_like f x ≡ true) where
   like_other h = by_like (λ e. subst (λ (y : ℕ). is_dna_base y ≡ false) e h) (λ d _. clash h d)
 
 -- ---- a string like the first: no byte of 128 or more, and at each place a byte like the first's
-row_low : (fs xs : List ℕ) → like_row fs xs ≡ true → any is_high fs ≡ false → any is_high xs ≡ false
+row_low : (fs xs : List ℕ) → like_row fs xs ≡ true → list_any is_high fs ≡ false → list_any is_high xs ≡ false
 row_low [] [] l h = refl
 row_low [] (x ∷ xs) l h = clash refl l
 row_low (f ∷ fs) [] l h = refl
 row_low (f ∷ fs) (x ∷ xs) l h =
     let t = both (is_like f x) (like_row fs xs) l in
-    let n = neither (is_high f) (any is_high fs) h in
+    let n = neither (is_high f) (list_any is_high fs) h in
     rw (like_low f x t.0 n.0) (row_low fs xs t.1 n.1)
 
 like_at : (fs xs : List ℕ) (k : ℕ) → like_row fs xs ≡ true → k < length fs → is_like (byte_at fs k) (byte_at xs k) ≡ true
@@ -73,7 +74,7 @@ like_at (f ∷ fs) (x ∷ xs) zero l h = (both (is_like f x) (like_row fs xs) l)
 like_at (f ∷ fs) (x ∷ xs) (suc k) l h = like_at fs xs k (both (is_like f x) (like_row fs xs) l).1 (le_of_suc-le-suc h)
 
 -- ---- a column whose bytes are like its first
-column_sound : (column : List ℕ) → every (is_like (byte_at column 0)) column ≡ true → verdict_of column ≡ Sound
+column_sound : (column : List ℕ) → list_all (is_like (byte_at column 0)) column ≡ true → verdict_of column ≡ Ok tt
 column_sound column l =
     let f = byte_at column 0 in
     let u = none_by_every (is_like f) (is_unlike f) (like_not_unlike f) column l in
@@ -81,7 +82,7 @@ column_sound column l =
     (λ d. first_dna_sound column u d)
     (λ d. no_dna_sound column u (none_by_every (is_like f) is_dna_base (λ x h. like_other f x h d) column l))
 
-all_sound : (column : ℕ → List ℕ) (a n : ℕ) → ((k : ℕ) → a ≤ k → k < a + n → verdict_of (column k) ≡ Sound) → first_refused verdict_of (listed column a n) ≡ Sound
+all_sound : (column : ℕ → List ℕ) (a n : ℕ) → ((k : ℕ) → a ≤ k → k < a + n → verdict_of (column k) ≡ Ok tt) → first_refused verdict_of (listed column a n) ≡ Ok tt
 unfolding listed
 all_sound column a zero g = refl
 all_sound column a (suc n) g = rw (g a (omega arith) (omega arith)) (all_sound column (a + 1) n (λ k h l. g k (omega arith) (omega arith)))
@@ -98,21 +99,21 @@ module _ (w : ℕ) (s : List ℕ) where
     first_length : length (row q) ≡ w
     first_length = length-take-le w (drop (q + 1) s) (rw (length-drop (q + 1) s) (omega arith))
 
-    bytes_like : (ps : List ℕ) → every (like_row (row q)) (rows_at w s ps) ≡ true → every (is_like (byte_at s (q + 1 + k))) (bytes_at k s ps) ≡ true
+    bytes_like : (ps : List ℕ) → list_all (like_row (row q)) (rows_at w s ps) ≡ true → list_all (is_like (byte_at s (q + 1 + k))) (bytes_at k s ps) ≡ true
     bytes_like [] l = refl
     bytes_like (p ∷ ps) l =
-        let t = both (like_row (row q) (row p)) (every (like_row (row q)) (rows_at w s ps)) l in
+        let t = both (like_row (row q) (row p)) (list_all (like_row (row q)) (rows_at w s ps)) l in
         let here = like_at (row q) (row p) k t.0 (rw first_length h) in
         rw (rw (row_at q k h, row_at p k h) at here) (bytes_like ps t.1)
 
-  pub like_sound : (ps : List ℕ) → RowsFit w s ps → any is_high (row (byte_at ps 0)) ≡ false → every (like_row (row (byte_at ps 0))) (rows_at w s ps) ≡ true
-      → verdict_within w s ps ≡ Sound
+  pub like_sound : (ps : List ℕ) → RowsFit w s ps → list_any is_high (row (byte_at ps 0)) ≡ false → list_all (like_row (row (byte_at ps 0))) (rows_at w s ps) ≡ true
+      → verdict_within w s ps ≡ Ok tt
   unfolding verdict_within row_columns_at
   like_sound ps fit low l =
       let q = byte_at ps 0 in
-      let sound : (k : ℕ) → k < w → verdict_of (bytes_at k s ps) ≡ Sound =
-      λ k h. column_sound (bytes_at k s ps) (rw (given_at (λ p. byte_at s (p + 1 + k)) ps 0 0 fit.0) (bytes_like q k h (fit.2 0 fit.0) ps l)) in
-      rw (none_by_every (like_row (row q)) (any is_high) (λ t h. row_low (row q) t h low) (rows_at w s ps) l) (all_sound (λ k. bytes_at k s ps) 0 w (λ k _ h. sound k (omega arith)))
+      let sound : (k : ℕ) → k < w → verdict_of (bytes_at k s ps) ≡ Ok tt =
+      λ k h. column_sound (bytes_at k s ps) (rw (given_at (λ p. byte_at s (p + 1 + k)) ps 0 0 fit.some) (bytes_like q k h (fit.inside 0 fit.some) ps l)) in
+      rw (none_by_every (like_row (row q)) (list_any is_high) (λ t h. row_low (row q) t h low) (rows_at w s ps) l) (all_sound (λ k. bytes_at k s ps) 0 w (λ k _ h. sound k (omega arith)))
 
 -- ---- two strings, of which the first i places are passed
 pub like_lengths : (fs xs : List ℕ) → (length fs ≡ length xs → ⊥) → false ≡ like_row fs xs

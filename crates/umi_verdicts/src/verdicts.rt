@@ -1,62 +1,55 @@
 // What is refused in a family.
-ghost use Rattle.std.specs.Prelude.{◌≡◌, true};
-ghost use Rattle.refusals.specs.declared.Verdict.TheVariants.{Sound};
-ghost use Rattle.refusals.specs.Refusals.{verdict_number};
+ghost use Rattle.std.specs.Prelude.{◌≡◌, true, Ok};
+ghost use Rattle.refusals.specs.Refusals.{number_in};
 ghost use Rattle.refusals.specs.Result.{first_refused};
 ghost use Rattle.umi_column.specs.Verdicts.{verdict_of};
-ghost use Rattle.umi_rows.specs.Rows.{RowsFit, row_columns_at};
+ghost use Rattle.umi_rows.specs.Rows.{row_columns_at};
 ghost use Rattle.umi_verdicts.specs.FamilyVerdicts.{verdict_within, verdict_at, verdict_number_at};
 
 use crate::rows::{any_high, high_in, rows_like};
-use refusals::{Refusal, Verdict};
+use refusals::Refusal;
 use umi_column::column_verdict;
-use umi_rows::{fit, gather};
+use umi_rows::Family;
 
 // Whether the strings one by one show nothing to refuse: only else are the columns looked at.
-fn looks_sound(set: &[u8], places: &[usize], width: usize) -> bool
-    requires { RowsFit width set.now places.now }
-    ensures { result ≡ true → verdict_within width set.now places.now ≡ Sound }
+fn looks_sound(family: &Family) -> bool
+    ensures { result ≡ true → verdict_within family.now.width family.now.set.now family.now.places.now ≡ Ok tt }
 {
-    let from = places[0] + 1;
-    let end = from + width;
-    if high_in(&set[from..end]) {
-        return false;
-    }
-    rows_like(set, places, width)
+    !high_in(family.first()) && rows_like(family)
 }
 
 // What is refused in the first faulty column.
-fn columns_verdict(set: &[u8], places: &[usize], width: usize) -> Verdict
-    requires { RowsFit width set.now places.now }
-    ensures { result ≡ first_refused verdict_of (row_columns_at width set.now places.now) }
+fn columns_verdict(family: &Family) -> Result<(), Refusal>
+    ensures { result ≡ first_refused verdict_of (row_columns_at family.now.width family.now.set.now family.now.places.now) }
 {
-    let mut at = 0;
-    while at < width {
-        let column = gather(set, places, at);
-        let n = places.len();
-        match column_verdict(&column[..n]) {
-            Verdict::Refused(r) => return Verdict::Refused(r),
-            Verdict::Sound => {}
-        }
-        at += 1;
+    for at in 0..family.width {
+        let column = family.column(at);
+        column_verdict(&column[..family.places.len()])?;
     }
-    Verdict::Sound
+    Ok(())
 }
 
-// Of strings of a width after these places. What is said of strings that do not lie in the set, and of no
-// places, is free: they are refused as cut off.
-pub fn family_verdict(set: &[u8], places: &[usize], width: usize) -> Verdict
-    ensures verdict { result ≡ verdict_at width set.now places.now }
-    ensures number { verdict_number result ≡ verdict_number_at width set.now places.now }
+// A byte of 128 or more in a string, or else the first faulty column.
+fn verdict_within(family: &Family) -> Result<(), Refusal>
+    ensures { result ≡ verdict_within family.now.width family.now.set.now family.now.places.now }
 {
-    if !fit(set, places, width) {
-        return Verdict::Refused(Refusal::CutOff);
+    if looks_sound(family) {
+        return Ok(());
     }
-    if looks_sound(set, places, width) {
-        return Verdict::Sound;
+    if any_high(family) {
+        return Err(Refusal::NotAscii);
     }
-    if any_high(set, places, width) {
-        return Verdict::Refused(Refusal::NotAscii);
+    columns_verdict(family)
+}
+
+// The same of strings by their places. Those that do not lie in the set, and no places, are refused as cut off.
+// kept: no plainer: the promise is for any set and places, and a `Family` holds those alone that fit
+pub fn family_verdict(set: &[u8], places: &[usize], width: usize) -> Result<(), Refusal>
+    ensures verdict { result ≡ verdict_at width set.now places.now }
+    ensures number { number_in result ≡ verdict_number_at width set.now places.now }
+{
+    match Family::of(set, places, width) {
+        Some(family) => verdict_within(&family),
+        None => Err(Refusal::CutOff),
     }
-    columns_verdict(set, places, width)
 }

@@ -1,5 +1,5 @@
 -- The shortcut where one base alone was observed: its quality by its lead over the others, from the tables of the pre-UMI rate.
-use Rattle.std.specs.Prelude.{ℕ, ◌+◌, ◌-◌, ◌%◌, Bool, not, ◌&&◌, ◌||◌, List, ltb, eqb, Float}
+use Rattle.std.specs.Prelude.{ℕ, ◌+◌, ◌-◌, ◌%◌, Bool, not, ◌&&◌, ◌||◌, Option, Some, None, List, ltb, eqb, Float}
 use Rattle.std.specs.Float.Ieee.{lt, le}
 use Rattle.std.specs.Float.Ieee.Scale.{finite}
 use Rattle.float.specs.Ops.{◌⊖◌, ◌⊗◌, one, half, epsilon}
@@ -10,8 +10,7 @@ use Rattle.tie_rules.specs.declared.tie_rule.TieRule.{TieRule}
 use Rattle.tie_rules.specs.Lanes.{lane, counted, no_lane}
 use Rattle.words.specs.Claims.{all_below}
 use Rattle.tie_rules.specs.Ties.{untied}
-use Rattle.lane_calls.specs.declared.call.Reply.{Reply}
-use Rattle.lane_calls.specs.declared.call.Reply.TheVariants.{Replied, Deferred}
+use Rattle.lane_calls.specs.declared.call.Call.{Call}
 use Rattle.lane_calls.specs.Calls.{called, outside, unanimous_margin}
 use Rattle.unanimous_shortcut.specs.Search.{entry, partition_point}
 
@@ -35,10 +34,6 @@ sole_lane ns =
 unfoldable pub leads : Float → Float → Bool
 leads winner loser = finite (winner ⊖ loser) && lt epsilon (winner ⊖ loser)
 
--- the tables by their parts
-abbrev pub tables_of : List Float → List Float → ℕ → UnanimousGapTables
-tables_of thresholds cerr cap = record { thresholds = thresholds; cerr_min = cerr; cap = cap }
-
 -- at or above the cap's threshold: the gap is ln 2 or more above it, and the margin is below half the error there
 abbrev pub clears_cap : UnanimousGapTables → Float → Float → Bool
 clears_cap t winner loser =
@@ -46,11 +41,11 @@ clears_cap t winner loser =
     && lt (unanimous_margin winner loser one) (half ⊗ entry t.cerr_min (t.cap - 1))
 
 -- then the quality is the cap
-unfoldable pub cap_reply : UnanimousGapTables → ℕ → Float → Float → Reply
+unfoldable pub cap_reply : UnanimousGapTables → ℕ → Float → Float → Option Call
 cap_reply t i winner loser =
     if eqb t.cap 0 then outside
-    else if clears_cap t winner loser then Replied (called i t.cap)
-    else Deferred
+    else if clears_cap t winner loser then Some (called i t.cap)
+    else None
 
 -- below the cap's threshold, where p entries are at or below the gap: the margin of level p - 1
 abbrev pub margin_of : UnanimousGapTables → Float → Float → ℕ → Float
@@ -64,29 +59,29 @@ abbrev pub clears_upper : UnanimousGapTables → Float → Float → ℕ → Boo
 clears_upper t winner loser p = lt (margin_of t winner loser p) (entry t.thresholds p ⊖ (winner ⊖ loser))
 
 -- then the quality is the level
-unfoldable pub bracket_reply : UnanimousGapTables → ℕ → Float → Float → ℕ → Reply
+unfoldable pub bracket_reply : UnanimousGapTables → ℕ → Float → Float → ℕ → Option Call
 bracket_reply t i winner loser p =
     if eqb p 0 then outside
-    else if not (clears_lower t winner loser p) then Deferred
+    else if not (clears_lower t winner loser p) then None
     else if ltb 93 p then outside
-    else if clears_upper t winner loser p then Replied (called i (p - 1))
-    else Deferred
+    else if clears_upper t winner loser p then Some (called i (p - 1))
+    else None
 
 -- what the tables say of lane i
-unfoldable pub gap_reply : UnanimousGapTables → ℕ → Float → Float → Reply
+unfoldable pub gap_reply : UnanimousGapTables → ℕ → Float → Float → Option Call
 gap_reply t i winner loser =
     if ltb 93 t.cap then outside
     else if le (entry t.thresholds t.cap) (winner ⊖ loser) then cap_reply t i winner loser
     else bracket_reply t i winner loser (partition_point t.thresholds (winner ⊖ loser))
 
 -- where lane i alone was observed: it leads the next lane, is finite, and no other lane ties with it as the rule tests it
-unfoldable pub reply_for_lane : UnanimousGapTables → List Float → ℕ → TieRule → Reply
+unfoldable pub reply_for_lane : UnanimousGapTables → List Float → ℕ → TieRule → Option Call
 reply_for_lane t xs i rule =
     let winner = lane xs i in
     let loser = lane xs ((i + 1) % 4) in
     if ltb i no_lane && (leads winner loser && (finite winner && untied rule xs i winner)) then gap_reply t i winner loser
-    else Deferred
+    else None
 
 -- the shortcut: for the lane that alone was observed
-unfoldable pub unanimous_reply : UnanimousGapTables → List Float → List ℕ → TieRule → Reply
+unfoldable pub unanimous_reply : UnanimousGapTables → List Float → List ℕ → TieRule → Option Call
 unanimous_reply t xs ns rule = reply_for_lane t xs (sole_lane ns) rule

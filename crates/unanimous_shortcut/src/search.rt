@@ -1,9 +1,10 @@
 // The search in a table of thresholds.
-ghost use Rattle.std.specs.Prelude.{◌≡◌, ◌+◌, ◌≤◌, min};
+ghost use Rattle.std.specs.Prelude.{◌≡◌, ◌+◌, ◌≤◌};
 ghost use Rattle.unanimous_shortcut.specs.Search.{advanced, partition_point};
 
 // The first two steps, of 64 and of 32 entries: where the first is made, the second would leave the table.
 // Neither waits for the other.
+#[tactic(auto, unfolding(crate::specs::Search::advanced))]
 fn first_steps(thresholds: &[f64; 94], gap: f64) -> usize
     ensures steps { result ≡ advanced thresholds.now gap (advanced thresholds.now gap 0 64) 32 }
     ensures held { result ≤ 64 }
@@ -11,13 +12,11 @@ fn first_steps(thresholds: &[f64; 94], gap: f64) -> usize
     if thresholds[63] <= gap {
         return 64;
     }
-    if thresholds[31] <= gap {
-        return 32;
-    }
-    0
+    if thresholds[31] <= gap { 32 } else { 0 }
 }
 
 // A step that stays in the table, s entries further on from p.
+#[tactic(auto, unfolding(crate::specs::Search::advanced))]
 fn advance(thresholds: &[f64; 94], gap: f64, p: usize, s: usize) -> usize
     requires s_bound { p + s ≤ 94 }
     requires le_s { 1 ≤ s }
@@ -25,19 +24,10 @@ fn advance(thresholds: &[f64; 94], gap: f64, p: usize, s: usize) -> usize
     ensures held { result ≤ p + s }
 {
     if thresholds[p + s - 1] <= gap {
-        return p + s;
+        p + s
+    } else {
+        p
     }
-    p
-}
-
-// A place of the table, or its last.
-fn place(p: usize) -> usize
-    ensures { result ≡ min p 93 }
-{
-    if p < 93 {
-        return p;
-    }
-    93
 }
 
 // The last step, of one entry. From 94 on there is none to make, and both ways lead to 94.
@@ -46,15 +36,14 @@ fn last_step(thresholds: &[f64; 94], gap: f64, p: usize) -> usize
     ensures step { result ≡ advanced thresholds.now gap p 1 }
     ensures held { result ≤ 94 }
 {
-    let i = place(p);
-    if thresholds[i] <= gap {
-        return i + 1;
-    }
-    p
+    let i = p.min(93);
+    if thresholds[i] <= gap { i + 1 } else { p }
 }
 
 // How many entries, from the first on, are at or below the gap, found by halving. So many steps serve
 // any table of 94 entries, and none is a branch.
+// kept: rule of the project: the program works `partition_point` out itself.
+#[tactic(auto, unfolding(crate::specs::Search::partition_point, crate::specs::Search::searched))]
 pub fn partition_point(thresholds: &[f64; 94], gap: f64) -> usize
     ensures point { result ≡ partition_point thresholds.now gap }
     ensures held { result ≤ 94 }

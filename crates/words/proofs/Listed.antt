@@ -1,13 +1,13 @@
--- A loop that fills a table, place by place, with what a rule says; for any rule. Assumes nothing.
-use mathlib.Core.Path.{◌≡◌, refl, sym, ◌∙◌, ap}
+-- A table of what a rule says at each place, and calls of a closure that make one; for any rule. Assumes nothing.
+use mathlib.Core.Path.{◌≡◌, refl, sym, ◌∙◌, ap, subst}
 use mathlib.Core.List.{List}
 use Prim.Native.Nat.{ℕ, zero, suc, ◌+◌, ◌<◌, ◌≤◌}
-use native.Mathlib.Nat.{add-zero, zero-add, ne_of_lt, le_of_suc-le-suc, not-suc-le-zero}
+use native.Mathlib.Nat.{add-zero, zero-add, le_of_suc-le-suc, not-suc-le-zero}
 use native.Mathlib.Omega.{arith}
-use lib.ListN.{length, get_or, set}
-use lib.Seq.{get_or-set_same, get_or-set_other, ext_get_or}
-use borrow.Author.Count.{below_more}
-use lib.Ieee.{Float, nan}
+use lib.ListN.{length, get_or}
+use lib.Seq.{ext_get_or}
+use denote.Param.Members.{Mut, Called}
+use Rattle.std.specs.Array.{IsFromFnResult, IsFromFnResultFrom}
 use Rattle.words.specs.Lists.{listed}
 
 pub listed_length : {A : Type 0} (f : ℕ → A) (a n : ℕ) → length (listed f a n) ≡ n
@@ -27,17 +27,25 @@ listed_at f d a (suc n) (suc k) h =
 pub level_at : {A : Type 0} (f : ℕ → A) (d : A) (n k : ℕ) → k < n → get_or (listed f 0 n) k d ≡ f k
 level_at f d n k h = listed_at f d 0 n k h ∙ ap f (zero-add k)
 
--- the places below q hold what the rule says
-abbrev pub Filled : (ℕ → Float) → List Float → ℕ → Type 0
-Filled f a q = (k : ℕ) → k < q → get_or a k nan ≡ f k
+-- what calls of g at 0, 1 and so on made, where each leaves g's own values as they were
+module _ {A F : Type 0} (g : Mut F (ℕ × Unit {0}) A) (own : F) (f : ℕ → A) (d : A) (a n : ℕ) (one : (i : ℕ) (y : A) (q : F) → i < n → Called g own (i, tt) y q → (y ≡ f (a + i)) × (q ≡ own)) where
+  called_at : (i m : ℕ) (q : F) (ys : List A) → i + m ≤ n → q ≡ own → IsFromFnResultFrom g q ys i m → (k : ℕ) → k < m → get_or ys (i + k) d ≡ f (a + (i + k))
+  called_at i zero q ys l e c k h = absurd (not-suc-le-zero h)
+  called_at i (suc m) q ys l e c zero h =
+      let o = one i c.1 c.0 (omega arith) (subst (λ (s : F). Called g s (i, tt) c.1 c.0) e c.3) in
+      rw (add-zero i) (c.2.1 d ∙ o.0)
+  called_at i (suc m) q ys l e c (suc k) h =
+      let o = one i c.1 c.0 (omega arith) (subst (λ (s : F). Called g s (i, tt) c.1 c.0) e c.3) in
+      let s : i + 1 + k ≡ i + suc k = omega arith in
+      let more : i + 1 + m ≤ n = omega arith in
+      rw s at (called_at (i + 1) m c.0 ys more o.1 c.4 k (le_of_suc-le-suc h))
 
-pub filled_more : (f : ℕ → Float) (a : List Float) (q : ℕ) (v : Float) → q < length a → v ≡ f q → Filled f a q → Filled f (set a q v) (q + 1)
-filled_more f a q v h e g =
-    below_more (λ (k : ℕ). get_or (set a q v) k nan ≡ f k) q
-    (λ k l. get_or-set_other a q k v nan (ne_of_lt l) ∙ g k l)
-    (get_or-set_same a q v nan h ∙ e)
+  pub listed_by_calls : (ys : List A) → IsFromFnResult g own ys n → ys ≡ listed f a n
+  listed_by_calls ys r =
+      let all : 0 + n ≤ n = omega arith in
+      ext_get_or d ys (listed f a n) (r.long ∙ sym (listed_length f a n))
+      (λ k h. let m : k < n = rw r.long at h in rw (zero-add k) at (called_at 0 n own ys all refl r.each k m) ∙ sym (listed_at f d a n k m))
 
-pub filled_all : (f : ℕ → Float) (a : List Float) (n q : ℕ) → length a ≡ n → n ≤ q → Filled f a q → a ≡ listed f 0 n
-filled_all f a n q e h g =
-    ext_get_or nan a (listed f 0 n) (e ∙ sym (listed_length f 0 n))
-    (λ k l. let m : k < n = omega arith in g k (omega arith) ∙ sym (level_at f nan n k m))
+-- a table of what f gives, from its first entry on
+pub filled_by_calls : {A F : Type 0} (g : Mut F (ℕ × Unit {0}) A) (own : F) (f : ℕ → A) (d : A) (n : ℕ) → ((i : ℕ) (y : A) (q : F) → i < n → Called g own (i, tt) y q → (y ≡ f i) × (q ≡ own)) → (ys : List A) → IsFromFnResult g own ys n → ys ≡ listed f 0 n
+filled_by_calls g own f d n one = listed_by_calls g own f d 0 n (λ i y q l c. let o = one i y q l c in (o.0 ∙ ap f (sym (zero-add i)), o.1))

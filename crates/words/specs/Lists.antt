@@ -1,28 +1,5 @@
 -- The words of our definitions on lists.
-use Rattle.std.specs.Prelude.{ℕ, zero, suc, ◌+◌, Bool, true, false, ◌&&◌, ◌||◌, List, [], ◌∷◌, eqb, get_or}
-use Rattle.std.specs.Prelude.{if◌then◌else◌}
-
--- the test passes at one of them
-abbrev pub any : {A : Type 0} → (A → Bool) → List A → Bool
-any p [] = false
-any p (x ∷ xs) = p x || any p xs
-
--- the test passes at each of them
-abbrev pub every : {A : Type 0} → (A → Bool) → List A → Bool
-every p [] = true
-every p (x ∷ xs) = p x && every p xs
-
--- those at which the test passes
-abbrev pub keep : {A : Type 0} → (A → Bool) → List A → List A
-keep p [] = []
-keep p (x ∷ xs) =
-    if p x then x ∷ keep p xs
-    else keep p xs
-
--- f of each, added up
-abbrev pub added_up : {A : Type 0} → (A → ℕ) → List A → ℕ
-added_up f [] = 0
-added_up f (x ∷ xs) = f x + added_up f xs
+use Rattle.std.specs.Prelude.{ℕ, zero, suc, ◌+◌, Bool, true, false, ◌&&◌, List, [], ◌∷◌, eqb, get_or}
 
 -- the last one, or else x
 abbrev pub last_or : {A : Type 0} → A → List A → A

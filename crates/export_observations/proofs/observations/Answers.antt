@@ -1,27 +1,30 @@
 -- `observations`: a state of another length, too short a buffer, or all counts. Assumes nothing.
-use mathlib.Core.Path.{sym, ◌∙◌}
-use Prim.Native.Nat.{◌≤◌, ◌<◌}
-use native.Mathlib.Omega.{arith}
-use lib.ListN.{length}
-use Rattle.lent_bytes.proofs.Buffer.{short_written, fits_replied, short_replied}
+use Rattle.std.proofs.Common.{◌≡◌, ◌≤◌, length, refl, arith, rules}
+use Rattle.lent_bytes.specs.Buffer.{length_written, written}
 use Rattle.lent_text.proofs.Printed.{printed_written}
-use Rattle.export_reports.proofs.Buffers.{none_replied, none_written}
-use Rattle.export_observations.proofs.Laws.{counts_length, asked, asked_length, eighty, not_eighty}
+use Rattle.export_reports.proofs.Written.{nothing_said, too_short, all_said}
+use Rattle.export_observations.specs.Observations.{observation_count_bytes}
+use Rattle.export_observations.proofs.Laws.{eighty, not_eighty, eighty_length}
 use Rattle.export_observations.proofs.observations.Goals as goal
+use Rattle.export_observations.proofs.observations.Goals.{then-state-ne80-via-then-state-ne80, then-state-ne80-via-else-state-ne80+then-out-lt1044}
 
 pub returns-then-state-ne80 : goal.returns-then-state-ne80
 returns-then-state-ne80 c =
-    let none = not_eighty c.args.state.now c.if-state-ne80.true in record { reply = none_replied _ _ none; lent = none_written _ _ none }
-
-pub returns-then-out-lt1044 : goal.returns-then-out-lt1044
-returns-then-out-lt1044 c =
-    let s = c.args.state.now in
-    let short : length c.args.out.now < length (asked s) = omega (arith, asked_length s) in record { reply = rw (eighty s c.if-state-ne80.false) (short_replied _ _ short); lent = rw (eighty s c.if-state-ne80.false) (short_written _ _ short) }
-
-pub put_counts-requires : goal.put_counts-requires
-put_counts-requires c = rw c.builder_of.ensures (counts_length 0 _)
+    let said = observation_count_bytes c.args.state.now in
+    let none : (0 ≡ length_written said c.args.out.now) × (c.args.out.now ≡ written said c.args.out.now) =
+    elim c.then-state-ne80.branch [
+      | then-state-ne80-via-then-state-ne80 w ↦ nothing_said said c.args.out.now (not_eighty _ w.if-state-ne80.true)
+      | then-state-ne80-via-else-state-ne80+then-out-lt1044 w ↦ too_short said c.args.out.now (omega (arith, w.if-out-lt1044.true, eighty_length _ w.if-state-ne80.false))
+    ] in
+    record { reply = none.0; lent = none.1 }
 
 pub returns : goal.returns
 returns c =
-    let s = c.args.state.now in
-    let fits : length (asked s) ≤ length c.args.out.now = omega (arith, asked_length s) in record { reply = rw (eighty s c.if-state-ne80.false) (sym (asked_length s) ∙ fits_replied _ _ fits); lent = rw (eighty s c.if-state-ne80.false) ((printed_written (rw c.builder_of.ensures at c.put_counts.ensures) fits).1) }
+    let said = observation_count_bytes c.args.state.now in
+    let size = eighty_length _ c.if-state-ne80.false in
+    let fits : length said ≤ length c.args.out.now = omega (arith, size, c.if-out-lt1044.false) in
+    let printed = printed_written (rw (c.builder_of.ensures, ← eighty _ c.if-state-ne80.false) at c.put_all.ensures) refl fits in
+    record {
+      reply = omega (arith, size, all_said said c.args.out.now fits);
+      lent = search (rules, printed.1, c.put_all.ensures.buffer);
+    }

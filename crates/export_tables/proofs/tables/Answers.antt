@@ -1,30 +1,24 @@
--- `tables`: what `write` leaves, with the tables that the two functions gave. Assumes nothing.
-use mathlib.Core.Path.{◌≡◌, ◌∙◌}
-use mathlib.Core.List.{List}
-use Prim.Native.Nat.{ℕ, ◌≤◌}
-use native.Mathlib.Omega.{arith}
-use lib.ListN.{length}
-use Rattle.rate_tables.specs.declared.adjusted.AdjustedProbabilityTables.{AdjustedProbabilityTables}
-use Rattle.rate_tables.specs.Adjusted.{adjusted_tables}
-use Rattle.gap_tables.specs.declared.gaps.UnanimousGapTables.{UnanimousGapTables}
-use Rattle.gap_tables.specs.Gaps.{gap_tables}
-use Rattle.lent_bytes.specs.Buffer.{length_written, written}
-use Rattle.export_tables.specs.Tables.{number_byte, table_byte, table_bytes, overwritten}
-use Rattle.export_tables.proofs.Overwritten.{over_written, over_short}
+-- `tables`: too short a buffer, or all tables. Assumes nothing.
+use Rattle.std.proofs.Common.{◌≤◌, length, refl, arith, rules}
+use Rattle.lent_text.proofs.Printed.{printed_written}
+use Rattle.export_reports.proofs.Written.{too_short, all_said}
+use Rattle.export_tables.specs.Tables.{table_bytes}
+use Rattle.export_tables.proofs.Laws.{tables_length}
 use Rattle.export_tables.proofs.tables.Goals as goal
 
--- what is left of a buffer, by the tables that were built
-all-written : (pre post : ℕ) (a : AdjustedProbabilityTables) (g : UnanimousGapTables) (out after : List ℕ)
-    → a ≡ adjusted_tables post → g ≡ gap_tables pre → 3016 ≤ length out
-    → after ≡ overwritten (number_byte a.correct a.error_per_alt g.thresholds g.cerr_min g.cap) 3016 out
-    → (3016 ≡ length_written (table_bytes pre post) out) × (after ≡ written (table_bytes pre post) out)
-unfolding table_bytes
-all-written pre post a g out after e k h w = let o = over_written (table_byte pre post) 3016 out h in (o.0, rw (e, k) at w ∙ o.1)
-
 pub returns-then-out-lt3016 : goal.returns-then-out-lt3016
-unfolding table_bytes
-returns-then-out-lt3016 c = let said = over_short (table_byte c.args.pre.0 c.args.post.0) 3016 c.args.out.now c.if-out-lt3016.true in record { reply = said.0; lent = said.1 }
+returns-then-out-lt3016 c =
+    let none = too_short (table_bytes c.args.pre.0 c.args.post.0) c.args.out.now (omega (arith, tables_length c.args.pre.0 c.args.post.0)) in
+    record { reply = none.0; lent = none.1 }
 
 pub returns : goal.returns
-returns c = let said = all-written c.args.pre.0 c.args.post.0 _ _ c.args.out.now _ c.compute-adjusted.ensures
-    c.build_unanimous_gap_tables-gaps.ensures (omega arith) c.write.ensures in record { reply = said.0; lent = said.1 }
+unfolding table_bytes
+returns c =
+    let said = table_bytes c.args.pre.0 c.args.post.0 in
+    let size = tables_length c.args.pre.0 c.args.post.0 in
+    let fits : length said ≤ length c.args.out.now = omega (arith, size) in
+    let printed = printed_written (rw (c.compute-adjusted.ensures, c.build_unanimous_gap_tables-gaps.ensures) at c.put_tables.ensures) refl fits in
+    record {
+      reply = omega (arith, size, all_said said c.args.out.now fits);
+      lent = search (rules, printed.1, c.put_tables.ensures.buffer);
+    }

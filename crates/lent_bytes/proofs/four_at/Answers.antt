@@ -1,12 +1,8 @@
--- `four_at`: past the end, and the front of what follows the place. Assumes nothing.
-use mathlib.Core.Path.{◌∙◌}
-use native.Mathlib.Omega.{arith}
-use borrow.Author.Rules.{part_to_end}
-use Rattle.lent_bytes.proofs.Numbers.{number_past, number_front}
+-- `four_at`: the number of the four bytes. Assumes nothing.
+use mathlib.Core.Path.{◌∙◌, ap}
+use Rattle.std.specs.Int.{from_le_bytes, w32}
+use Rattle.lent_bytes.proofs.Numbers.{number_four}
 use Rattle.lent_bytes.proofs.four_at.Goals as goal
 
-pub returns-then-bytes-at : goal.returns-then-bytes-at
-returns-then-bytes-at c = record { number = number_past c.args.bytes.now 4 c.args.at (omega arith); few = omega arith }
-
 pub returns : goal.returns
-returns c = record { number = rw (part_to_end c.args.bytes.now c.args.at) at c.front_four.ensures.value ∙ number_front c.args.bytes.now 4 c.args.at; few = c.front_four.ensures.upper_bound }
+returns c = c.from_le_bytes.ensures ∙ ap (from_le_bytes w32) c.bytes_at.ensures ∙ number_four c.args.bytes.now c.args.at

@@ -1,13 +1,12 @@
 -- `print_stream`: its first room is larger than a file may be, and its second holds every listing. Assumes nothing.
-use mathlib.Core.Path.{◌≡◌, sym, ◌∙◌}
+use mathlib.Core.Path.{◌∙◌}
 use Prim.Native.Nat.{◌≤◌, ◌<◌}
 use native.Mathlib.Omega.{arith}
 use lib.ListN.{length, take}
-use Rattle.lent_bytes.proofs.Buffer.{fits_replied}
 use Rattle.string_set.specs.Readers.{longest_file}
+use Rattle.streams.proofs.Streams.{same_said, fits_onto, fits_length}
 use Rattle.column_listing.specs.Listing.{listing_of}
 use Rattle.column_listing_laws.proofs.Longest.{fits}
-use Rattle.streams.proofs.Streams.{same_said, fits_onto}
 use Rattle.stream_listing.proofs.Streams.{long_alike}
 use Rattle.stream_listing.proofs.print_stream.Goals as goal
 
@@ -19,4 +18,11 @@ returns c =
     let long = fits (take c.args.read room) in
     let more : longest_file < length room = omega arith in
     let inside : length t ≤ length text = omega (arith, long.most) in
-    let reply : c.print_front.result ≡ length t = c.print_front.ensures.reply ∙ sym (fits_replied t text inside) in record { reply = reply; lent = c.print_front.ensures.lent ∙ fits_onto t text inside; whole = λ stream h. same_said listing_of longest_file long_alike stream c.args.read room more h; some = omega (arith, long.some) }
+    let said = rw c.front.ensures at c.print.ensures in
+    let reply = c.unwrap_or.ensures ∙ rw said.reply (fits_length t text inside) in
+    record {
+      reply = reply;
+      lent = said.lent ∙ fits_onto t text inside;
+      whole = λ stream h. same_said listing_of longest_file long_alike stream c.args.read room more h;
+      some = omega (arith, long.some, reply);
+    }

@@ -1,22 +1,21 @@
--- `print`: a file that is refused, and one that is not. Assumes nothing.
+-- `print`: a file that is refused, and the lines of one that is not. Assumes nothing.
 use native.Mathlib.Omega.{arith}
-use Rattle.column_file.specs.Reading.{read_file}
 use Rattle.column_file.proofs.Files.{few_columns}
-use Rattle.column_file.proofs.Readings.{FileAt, read-refused, read_accepted}
-use Rattle.column_errors.proofs.Files.{sums_refused, sums_there}
+use Rattle.column_errors.proofs.Files.{read_refused, read_accepted, sums_refused, sums_there}
 use Rattle.column_errors.proofs.sums.print.Goals as goal
 
-pub print_sums-requires : goal.print_sums-requires
-print_sums-requires c =
-    let given : FileAt (read_file c.args.file.now) c.in-Accepted.places = read_accepted _ c.read-reading.result c.read-reading.ensures.reading _ c.in-Accepted.is in
-    omega (arith, few_columns _ _ given)
+pub invariant_of-sums : goal.invariant_of-sums
+invariant_of-sums c =
+    let few = few_columns c.args.file.now _ (read_accepted c.args.file.now c.read.result c.read.ensures.reading c.in-Ok.places c.in-Ok.is) in
+    omega (arith, few)
 
-pub returns-in-Refused : goal.returns-in-Refused
-returns-in-Refused c =
-    let s = c.args.file.now in
-    let e = sums_refused s _ (read-refused (read_file s) c.read-reading.result c.read-reading.ensures.reading _ c.in-Refused.is) in record { reply = rw e c.print_refusal.ensures.reply; lent = rw e c.print_refusal.ensures.lent }
+pub returns-in-Ok : goal.returns-in-Ok
+returns-in-Ok c =
+    let a = read_accepted c.args.file.now c.read.result c.read.ensures.reading c.in-Ok.places c.in-Ok.is in
+    let said = rw (c.error_table.ensures, sums_there c.args.file.now c.in-Ok.places a) at c.put_whole.ensures in
+    record { reply = said.reply; lent = said.lent }
 
-pub returns-in-Accepted : goal.returns-in-Accepted
-returns-in-Accepted c =
-    let given : FileAt (read_file c.args.file.now) c.in-Accepted.places = read_accepted _ c.read-reading.result c.read-reading.ensures.reading _ c.in-Accepted.is in
-    let s = c.args.file.now in record { reply = rw (sums_there s _ given) c.print_sums.ensures.reply; lent = rw (sums_there s _ given) c.print_sums.ensures.lent }
+pub returns-in-Err : goal.returns-in-Err
+returns-in-Err c =
+    let e = sums_refused c.args.file.now _ (read_refused c.args.file.now c.read.result c.read.ensures.reading c.in-Err.refusal c.in-Err.is) in
+    record { reply = rw e c.print_refusal.ensures.reply; lent = rw e c.print_refusal.ensures.lent }

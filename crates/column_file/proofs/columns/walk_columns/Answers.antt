@@ -1,49 +1,27 @@
--- `walk_columns`: the verdict so far and the columns still to read are those of all, at each turn. Assumes nothing.
-use mathlib.Core.Path.{◌≡◌, refl, sym, ◌∙◌, ap}
-use Prim.Native.Nat.{◌+◌, ◌*◌, ◌≤◌}
-use native.Mathlib.Omega.{arith}
-use lib.ListN.{length}
+-- `walk_columns`: the columns passed and those still to read are the columns, and of those passed the first faulty observation decides, at each turn. Assumes nothing.
+use mathlib.Core.Path.{◌≡◌, sym, ◌∙◌, ap}
+use Rattle.string_set.proofs.Readers.{passed_none, passed_more, passed_cut, passed_all}
+use Rattle.column_file.specs.Format.{column}
 use Rattle.refusals.specs.Result.{or_else}
-use Rattle.column_file.specs.Reading.{column_verdict}
-use Rattle.column_file.specs.Places.{observations_at}
-use Rattle.column_file.proofs.ColumnWalk.{column_none, column-is, column_inside, column_start, walk_more, walk_cut, walk_done}
+use Rattle.column_file.specs.Reading.{column_verdict, columns_verdict}
+use Rattle.column_file.specs.Places.{observations_in}
+use Rattle.column_file.proofs.Front.{verdict_more, and_verdicts}
 use Rattle.column_file.proofs.columns.walk_columns.Goals as goal
 
-pub loop-left-init : goal.loop-left-init
-loop-left-init c = (omega arith, refl)
+pub returns-in_err-column : goal.returns-in_err-column
+returns-in_err-column c = rw c.from_residual.ensures (passed_cut column _ _ c.loop.counter _ c.loop.invariant.0 c.loop-test.true c.in_err-column.ensures)
 
-pub returns-in-Past : goal.returns-in-Past
-returns-in-Past c =
-    let s = c.args.file.now in
-    let none = column_none s c.loop-left.place c.column_at.result c.column_at.ensures.place c.in-Past.is in
-    sym (walk_cut s c.loop-left.place c.loop-left.verdict c.loop-left.left (omega arith) none) ∙ c.loop-left.invariant.1
+pub loop-init : goal.loop-init
+unfolding columns_verdict
+loop-init c = let none = passed_none column c.args.bytes.now c.args.n in (none.0, rw none.1)
 
-pub column_verdict-requires : goal.column_verdict-requires
-column_verdict-requires c =
-    let inside : let s = c.args.file.now in c.in-At.start + 2 * c.in-At.k ≤ length s = let s = c.args.file.now in column_inside s c.loop-left.place c.column_at.result c.column_at.ensures.place _ _ c.in-At.is in
-    inside
-
-pub overflow_mul-place : goal.overflow_mul-place
-overflow_mul-place c =
-    let inside : let s = c.args.file.now in c.in-At.start + 2 * c.in-At.k ≤ length s = let s = c.args.file.now in column_inside s c.loop-left.place c.column_at.result c.column_at.ensures.place _ _ c.in-At.is in
-    omega (arith, inside)
-
-pub overflow_add-place : goal.overflow_add-place
-overflow_add-place c =
-    let inside : let s = c.args.file.now in c.in-At.start + 2 * c.in-At.k ≤ length s = let s = c.args.file.now in column_inside s c.loop-left.place c.column_at.result c.column_at.ensures.place _ _ c.in-At.is in
-    omega (arith, inside)
-
-pub loop-left-preserved : goal.loop-left-preserved
-loop-left-preserved c =
-    let inside : let s = c.args.file.now in c.in-At.start + 2 * c.in-At.k ≤ length s = let s = c.args.file.now in column_inside s c.loop-left.place c.column_at.result c.column_at.ensures.place _ _ c.in-At.is in
-    let s = c.args.file.now in
-    let is = column-is s c.loop-left.place c.column_at.result c.column_at.ensures.place c.in-At.start c.in-At.k c.in-At.is in
-    let at = column_start s c.loop-left.place c.column_at.result c.column_at.ensures.place c.in-At.start c.in-At.k c.in-At.is in
-    let v : c.or_else-verdict.result ≡ or_else c.loop-left.verdict (column_verdict (observations_at s c.in-At.start c.in-At.k)) =
-    c.or_else-verdict.ensures.verdict ∙ ap (or_else c.loop-left.verdict) c.column_verdict.ensures in
-    (inside, rw v (walk_more s c.loop-left.place c.loop-left.verdict c.loop-left.left (omega arith) c.in-At.start c.in-At.k at is ∙ c.loop-left.invariant.1))
+pub loop-preserved : goal.loop-preserved
+loop-preserved c =
+    let more = passed_more column _ _ c.loop.counter _ c.loop.invariant.0 c.loop-test.true c.in_ok-column.ensures.0 in
+    let seen = c.loop.invariant.0.0 in
+    let column = observations_in c.in_ok-column.column.now in
+    let said : or_else c.loop.verdict c.column_verdict.result ≡ or_else (columns_verdict seen) (column_verdict column) = rw (c.loop.invariant.1, c.column_verdict.ensures) in
+    (more.0, c.and-verdict.ensures ∙ and_verdicts c.loop.verdict c.column_verdict.result ∙ said ∙ sym (verdict_more seen column) ∙ ap columns_verdict (sym more.1))
 
 pub returns : goal.returns
-returns c =
-    let s = c.args.file.now in
-    sym (walk_done s c.loop-left.place c.loop-left.verdict c.loop-left.left (omega arith)) ∙ c.loop-left.invariant.1
+returns c = (c.loop.invariant.0.0, passed_all column _ _ c.loop.counter _ c.loop.invariant.0 c.loop-test.false, c.loop.invariant.1)

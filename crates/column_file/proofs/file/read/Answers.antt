@@ -1,48 +1,54 @@
--- `read`: too many bytes, sections that do not make them up, bad settings, or the verdict on the columns. Assumes nothing.
-use mathlib.Core.Path.{sym, ◌∙◌, ap}
+-- `read`: too long, cut off, or as its settings and its columns are judged. Assumes nothing.
+use mathlib.Core.Path.{sym, ◌∙◌}
 use native.Mathlib.Omega.{arith}
-use Rattle.string_set.specs.Readers.{alone}
-use Rattle.column_file.specs.Format.{sections}
-use Rattle.column_file.specs.Reading.{settings_of}
-use Rattle.column_file.specs.Places.{reading_of}
-use Rattle.column_file.proofs.Numbers.{file_said}
-use Rattle.column_file.proofs.SettingsRead.{bytes_of, is_refused, is_accepted_lem}
-use Rattle.column_file.proofs.Sections.{parts, Found, found, found_cut}
-use Rattle.column_file.proofs.FileRead.{file_long, file_cut, file_unsettled, file_faulty, accepted_at}
+use lib.ListN.{length}
+use Rattle.std.proofs.lemmas.Result.{err_from_is_err_and}
+use Rattle.column_file.specs.Places.{places_of}
+use Rattle.column_file.proofs.Numbers.{said}
+use Rattle.column_file.proofs.FileRead.{file_long, front_none, announced_taken, columns_taken, read_by, front_cut, front_strings, front_settings, front_faulty, front_whole}
 use Rattle.column_file.proofs.file.read.Goals as goal
 
 pub returns-then-file-gt-LONGEST_FILE : goal.returns-then-file-gt-LONGEST_FILE
-returns-then-file-gt-LONGEST_FILE c =
-    let s = c.args.file.now in let said = file_said s _ (ap reading_of (sym (file_long s c.if-file-gt-LONGEST_FILE.true))) in record { reading = said.0; number = said.1 }
+returns-then-file-gt-LONGEST_FILE c = said places_of _ _ (rw (file_long c.args.file.now c.if-file-gt-LONGEST_FILE.true))
 
 pub returns-in_default : goal.returns-in_default
-returns-in_default c =
-    let s = c.args.file.now in
-    let cut = found_cut (sections s) (sym c.in_default.is ∙ c.sections_of-found.ensures) in let said = file_said s _ (ap reading_of (sym (file_cut s (omega arith) cut))) in record { reading = said.0; number = said.1 }
+returns-in_default c = said places_of _ _ (rw (front_none c.args.file.now (omega arith) c.in_default.ensures))
 
-pub settled_at-tested-requires : goal.settled_at-tested-requires
-settled_at-tested-requires c =
-    let where_found : let s = c.args.file.now in Found (alone (sections s)) c.in-At.columns c.in-At.count c.in-At.strings c.in-At.verdict = found _ _ _ _ _ (sym c.in-At.is ∙ c.sections_of-found.ensures) in
-    let d = where_found in
-    (parts c.args.file.now (omega arith) d.sections d.is).reaches
+pub returns-in_default-walk_columns : goal.returns-in_default-walk_columns
+returns-in_default-walk_columns c = said places_of _ _ (rw (front_cut c.args.file.now _ _ _ c.in-Some.ensures (omega arith) c.in_default-walk_columns.ensures))
 
-pub returns-in_default-tested : goal.returns-in_default-tested
-returns-in_default-tested c =
-    let where_found : let s = c.args.file.now in Found (alone (sections s)) c.in-At.columns c.in-At.count c.in-At.strings c.in-At.verdict = found _ _ _ _ _ (sym c.in-At.is ∙ c.sections_of-found.ensures) in
-    let s = c.args.file.now in
-    let d = where_found in
-    let bad = is_refused (settings_of (bytes_of s)) _ (sym c.settled_at-tested.ensures ∙ c.in_default-tested.is) in let said = file_said s _ (ap reading_of (sym (file_unsettled s (omega arith) d.sections d.is _ bad))) in record { reading = said.0; number = said.1 }
+pub returns-in_err-count_strings : goal.returns-in_err-count_strings
+returns-in_err-count_strings c =
+    let p = err_from_is_err_and c.from_residual.result c.from_residual.ensures.1 in
+    let k = c.in-Some-walk_columns.ensures in
+    said places_of _ _ (rw (p.1, p.2, front_strings c.args.file.now _ _ _ c.in-Some.ensures (omega arith) k.0 _ k.1 length _ c.in_err-count_strings.ensures.count))
 
-pub returns-in-Refused : goal.returns-in-Refused
-returns-in-Refused c =
-    let where_found : let s = c.args.file.now in Found (alone (sections s)) c.in-At.columns c.in-At.count c.in-At.strings c.in-At.verdict = found _ _ _ _ _ (sym c.in-At.is ∙ c.sections_of-found.ensures) in
-    let s = c.args.file.now in
-    let d = where_found in
-    let good = is_accepted_lem (settings_of (bytes_of s)) _ (sym c.settled_at-tested.ensures ∙ c.in-Accepted.is) in
-    let faulty = sym d.verdict ∙ c.in-Refused.is in let said = file_said s _ (ap reading_of (sym (file_faulty s (omega arith) d.sections d.is _ good _ faulty))) in record { reading = said.0; number = said.1 }
+pub returns-in_err-settings : goal.returns-in_err-settings
+returns-in_err-settings c =
+    let p = err_from_is_err_and c.from_residual-in_err-settings.result c.from_residual-in_err-settings.ensures.1 in
+    let k = c.in-Some-walk_columns.ensures in
+    let l = read_by length _ _ c.in_ok-count_strings.ensures.count in
+    said places_of _ _ (rw (p.1, p.2, front_settings c.args.file.now _ _ _ c.in-Some.ensures (omega arith) k.0 _ k.1 l.0 l.1 _ (sym c.in_err-settings.ensures)))
 
-pub returns-in-Sound : goal.returns-in-Sound
-returns-in-Sound c =
-    let where_found : let s = c.args.file.now in Found (alone (sections s)) c.in-At.columns c.in-At.count c.in-At.strings c.in-At.verdict = found _ _ _ _ _ (sym c.in-At.is ∙ c.sections_of-found.ensures) in
-    let s = c.args.file.now in
-    let good = is_accepted_lem (settings_of (bytes_of s)) _ (sym c.settled_at-tested.ensures ∙ c.in-Accepted.is) in let said = file_said s _ (accepted_at s (omega arith) _ _ _ _ where_found _ good c.in-Sound.is) in record { reading = said.0; number = said.1 }
+pub returns-in_err-verdict : goal.returns-in_err-verdict
+returns-in_err-verdict c =
+    let p = err_from_is_err_and c.from_residual-in_err-verdict.result c.from_residual-in_err-verdict.ensures.1 in
+    let k = c.in-Some-walk_columns.ensures in
+    let l = read_by length _ _ c.in_ok-count_strings.ensures.count in
+    let faulty = front_faulty c.args.file.now _ _ _ c.in-Some.ensures (omega arith) k.0 _ k.1 l.0 l.1 _ (sym c.in_ok-settings.ensures) _ (sym k.2 ∙ c.in_err-verdict.was) in
+    said places_of _ _ (rw (p.1, p.2, faulty))
+
+pub overflow_sub-result : goal.overflow_sub-result
+overflow_sub-result c = omega (arith, announced_taken c.args.file.now _ _ _ c.in-Some.ensures)
+
+pub overflow_sub-result-2 : goal.overflow_sub-result-2
+overflow_sub-result-2 c =
+    let k = c.in-Some-walk_columns.ensures in
+    let t = columns_taken c.in-Some.columns.now _ _ _ k.1 in
+    omega (arith, announced_taken c.args.file.now _ _ _ c.in-Some.ensures, t.0)
+
+pub returns : goal.returns
+returns c =
+    let k = c.in-Some-walk_columns.ensures in
+    let l = read_by length _ _ c.in_ok-count_strings.ensures.count in
+    said places_of _ _ (front_whole c.args.file.now _ _ _ c.in-Some.ensures (omega arith) k.0 _ k.1 l.0 l.1 _ (sym c.in_ok-settings.ensures) (sym k.2 ∙ c.in_ok-verdict.was))

@@ -1,38 +1,33 @@
--- `read_settings`: too many bytes, bytes that do not reach or are left, or the settings. Assumes nothing.
-use mathlib.Core.Path.{sym, ◌∙◌, ap}
+-- `read_settings`: too long, cut off, with bytes left, or as the settings are. Assumes nothing.
 use native.Mathlib.Omega.{arith}
-use Rattle.column_file.specs.Reading.{settings_of}
-use Rattle.column_file.specs.Places.{settings_reading_of}
-use Rattle.column_file.proofs.Numbers.{settings_said}
-use Rattle.column_file.proofs.SettingsRead.{bytes_of, said_past, said_at, is_refused, is_accepted_lem}
-use Rattle.column_file.proofs.SettingsRead.{read_long, read_cut, read_left, read-refused, read_accepted}
+use Rattle.std.proofs.lemmas.Result.{err_from_is_err_and}
+use Rattle.string_set.proofs.Readers.{lone_long, lone_cut, lone_left, lone_all}
+use Rattle.column_file.specs.Format.{announced}
+use Rattle.column_file.specs.Reading.{read_settings}
+use Rattle.column_file.proofs.Numbers.{same_said}
 use Rattle.column_file.proofs.settings.read_settings.Goals as goal
 
 pub returns-then-part-gt-LONGEST_FILE : goal.returns-then-part-gt-LONGEST_FILE
-returns-then-part-gt-LONGEST_FILE c = let said = settings_said _ _ (ap settings_reading_of (sym (read_long _ c.if-part-gt-LONGEST_FILE.true))) in record { reading = said.0; number = said.1 }
+unfolding read_settings
+returns-then-part-gt-LONGEST_FILE c = same_said _ _ (rw (lone_long announced c.args.part.now c.if-part-gt-LONGEST_FILE.true))
 
 pub returns-in_default : goal.returns-in_default
-returns-in_default c =
-    let s = c.args.part.now in let said = settings_said s _ (ap settings_reading_of (sym (read_cut s (omega arith) (said_past s c.head_of-start.result c.head_of-start.ensures c.in_default.is)))) in record { reading = said.0; number = said.1 }
+unfolding read_settings
+returns-in_default c = same_said _ _ (rw (lone_cut announced c.args.part.now (omega arith) c.in_default.ensures))
 
-pub returns-then-end-part : goal.returns-then-end-part
-returns-then-end-part c =
-    let s = c.args.part.now in
-    let at = said_at s c.head_of-start.result c.head_of-start.ensures _ _ c.in-At.is in let said = settings_said s _ (ap settings_reading_of (sym (read_left s (omega arith) at.2 (omega arith)))) in record { reading = said.0; number = said.1 }
+pub returns-then-not-is_empty : goal.returns-then-not-is_empty
+unfolding read_settings
+returns-then-not-is_empty c = same_said _ _ (rw (lone_left announced c.args.part.now (omega arith) _ c.in-Some.ensures c.if-not-is_empty.ensures))
 
-pub settled_at-tested-requires : goal.settled_at-tested-requires
-settled_at-tested-requires c =
-    let s = c.args.part.now in
-    (said_at s c.head_of-start.result c.head_of-start.ensures _ _ c.in-At.is).2
+pub returns-in_err-of : goal.returns-in_err-of
+unfolding read_settings
+returns-in_err-of c =
+    let p = err_from_is_err_and c.from_residual.result c.from_residual.ensures.1 in
+    let all = lone_all announced c.args.part.now (omega arith) _ c.in-Some.ensures c.if-not-is_empty.ensures in
+    same_said _ _ (rw (p.1, p.2, all, ← c.in_err-of.ensures))
 
-pub returns-in-Refused : goal.returns-in-Refused
-returns-in-Refused c =
-    let s = c.args.part.now in
-    let at = said_at s c.head_of-start.result c.head_of-start.ensures _ _ c.in-At.is in
-    let bad = is_refused (settings_of (bytes_of s)) _ (sym c.settled_at-tested.ensures ∙ c.in-Refused.is) in let said = settings_said s _ (ap settings_reading_of (sym (read-refused s (omega arith) at.2 (omega arith) _ bad))) in record { reading = said.0; number = said.1 }
-
-pub returns-in-Accepted : goal.returns-in-Accepted
-returns-in-Accepted c =
-    let s = c.args.part.now in
-    let at = said_at s c.head_of-start.result c.head_of-start.ensures _ _ c.in-At.is in
-    let good = is_accepted_lem (settings_of (bytes_of s)) _ (sym c.settled_at-tested.ensures ∙ c.in-Accepted.is) in let said = settings_said s _ (rw at.1 (ap settings_reading_of (sym (read_accepted s (omega arith) at.2 (omega arith) _ good)))) in record { reading = said.0; number = said.1 }
+pub returns : goal.returns
+unfolding read_settings
+returns c =
+    let all = lone_all announced c.args.part.now (omega arith) _ c.in-Some.ensures c.if-not-is_empty.ensures in
+    same_said _ _ (rw (all, ← c.in_ok-of.ensures))

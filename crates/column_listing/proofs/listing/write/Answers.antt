@@ -1,44 +1,29 @@
 -- `write`: a file that is refused, and the text with the consensus of its strings. Assumes nothing.
-use mathlib.Core.Path.{◌≡◌, sym}
-use Prim.Native.Nat.{◌≤◌}
-use native.Mathlib.Omega.{arith}
-use lib.ListN.{length, take}
-use lib.Seq.{length-take-le}
-use Rattle.column_file.proofs.Files.{few_columns}
-use Rattle.judged_file.specs.Judged.{judge_file}
-use Rattle.judged_file.proofs.Judged.{AcceptedAs, said_refused, said_accepted, accepted_short, consensus_room, consensus_there, judged_at}
-use Rattle.column_listing.specs.Places.{places_text}
-use Rattle.column_listing.proofs.Lengths.{places_length}
-use Rattle.column_listing.proofs.Outcomes.{same_text, listed_refused, listed_accepted, refused_reply, accepted_reply}
+use mathlib.Core.Path.{sym, ◌∙◌}
+use Rattle.std.proofs.lemmas.Result.{err_from_is_err_and}
+use Rattle.judged_file.proofs.Judged.{said_refused}
+use Rattle.column_calls.specs.Callers.{called_by}
+use Rattle.column_listing.specs.Listing.{listed_file}
+use Rattle.column_listing.specs.Answers.{listed_in}
+use Rattle.column_listing.proofs.Texts.{text_said, room_buffer}
 use Rattle.column_listing.proofs.listing.write.Goals as goal
 
-pub slice_bounds-text-end : goal.slice_bounds-text-end
-slice_bounds-text-end c =
-    let short : c.in-Accepted.n ≤ 255 = accepted_short c.judge-judged.result.judgement _ _ _ c.in-Accepted.is c.judge-judged.ensures.short in
-    let room : c.in-Accepted.n ≤ length c.judge-judged.result.text = omega (arith, short, consensus_room (judge_file c.args.file.now) _ c.judge-judged.ensures.text) in
-    room
+pub returns-in_err-judged : goal.returns-in_err-judged
+unfolding listed_in listed_file
+returns-in_err-judged c =
+    let p = err_from_is_err_and c.from_residual.result c.from_residual.ensures.1 in
+    let e = said_refused _ _ c.judge.result c.judge.ensures.judged c.in_err-judged.field-0.0 c.in_err-judged.was in
+    record { reply = rw (p.1, p.2, e); lent = rw e }
 
-pub slice_bounds-write_text-end : goal.slice_bounds-write_text-end
-slice_bounds-write_text-end c =
-    let short : c.in-Accepted.n ≤ 255 = accepted_short c.judge-judged.result.judgement _ _ _ c.in-Accepted.is c.judge-judged.ensures.short in
-    let room : c.in-Accepted.n ≤ length c.judge-judged.result.text = omega (arith, short, consensus_room (judge_file c.args.file.now) _ c.judge-judged.ensures.text) in
-    sym (length-take-le _ _ room)
+pub invariant_of-listed : goal.invariant_of-listed
+invariant_of-listed c =
+    let t = text_said c.args.file.now c.judge.result c.judge.ensures.judged c.judge.ensures.short c.in_ok-judged.judged c.in_ok-judged.was (called_by c.new-caller.result)
+    c.text.result.now c.new-caller.ensures c.text.ensures in
+    record { few = t.few; longest = t.most }
 
-pub write_text-requires : goal.write_text-requires
-write_text-requires c =
-    let given : let s = c.args.file.now in AcceptedAs (judge_file s) c.in-Accepted.places c.in-Accepted.n c.in-Accepted.had_errors = said_accepted _ c.judge-judged.result.judgement c.judge-judged.ensures.judgement _ _ _ c.in-Accepted.is in
-    let short : c.in-Accepted.n ≤ 255 = accepted_short c.judge-judged.result.judgement _ _ _ c.in-Accepted.is c.judge-judged.ensures.short in
-    let text_same : let s = c.args.file.now in let u = given.judged.found in places_text c.in-Accepted.places s (take c.in-Accepted.n c.judge-judged.result.text) c.in-Accepted.had_errors ≡ places_text c.in-Accepted.places s u.text u.had_errors = same_text _ _ (consensus_there _ _ _ _ given _ c.judge-judged.ensures.text short) given.flagged in
-    let s = c.args.file.now in
-    let a = given in
-    let f = judged_at s _ _ _ a in
-    (omega (arith, few_columns s _ f), rw text_same (places_length s _ f a.judged.found (omega (arith, a.size, short))))
-
-pub returns-in-Refused : goal.returns-in-Refused
-returns-in-Refused c = let said = refused_reply c.args.file.now c.args.out.now _ (listed_refused c.args.file.now _ (said_refused _ c.judge-judged.result.judgement c.judge-judged.ensures.judgement _ c.in-Refused.is)) in record { reply = said.0; lent = said.1 }
-
-pub returns-in-Accepted : goal.returns-in-Accepted
-returns-in-Accepted c =
-    let given : let s = c.args.file.now in AcceptedAs (judge_file s) c.in-Accepted.places c.in-Accepted.n c.in-Accepted.had_errors = said_accepted _ c.judge-judged.result.judgement c.judge-judged.ensures.judgement _ _ _ c.in-Accepted.is in
-    let short : c.in-Accepted.n ≤ 255 = accepted_short c.judge-judged.result.judgement _ _ _ c.in-Accepted.is c.judge-judged.ensures.short in
-    let text_same : let s = c.args.file.now in let u = given.judged.found in places_text c.in-Accepted.places s (take c.in-Accepted.n c.judge-judged.result.text) c.in-Accepted.had_errors ≡ places_text c.in-Accepted.places s u.text u.had_errors = same_text _ _ (consensus_there _ _ _ _ given _ c.judge-judged.ensures.text short) given.flagged in let said = accepted_reply c.args.file.now c.args.out.now _ _ c.write_text.result _ (listed_accepted c.args.file.now _ _ _ given) text_same c.write_text.ensures.reply c.write_text.ensures.lent in record { reply = said.0; lent = said.1 }
+pub returns : goal.returns
+unfolding listed_in
+returns c =
+    let t = text_said c.args.file.now c.judge.result c.judge.ensures.judged c.judge.ensures.short c.in_ok-judged.judged c.in_ok-judged.was (called_by c.new-caller.result)
+    c.text.result.now c.new-caller.ensures c.text.ensures in
+    record { reply = rw (t.is, c.put_whole.ensures.reply); lent = rw t.is (c.put_whole.ensures.lent ∙ sym (room_buffer _ _)) }

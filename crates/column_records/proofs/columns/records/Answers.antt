@@ -1,26 +1,38 @@
--- `records`: a file that is refused, and the records of one that is not. Assumes nothing.
-use mathlib.Core.Path.{◌∙◌, ap}
+-- `records`: a file that is refused, too little room, and the records of the others. Assumes nothing.
+use Rattle.std.proofs.Common.{rules}
+use mathlib.Core.Path.{refl, ◌∙◌}
+use Prim.Native.Nat.{◌≤◌}
+use lib.ListN.{length}
 use native.Mathlib.Omega.{arith}
-use Rattle.column_file.proofs.Files.{few_columns}
-use Rattle.judged_file.specs.Judged.{judge_file}
-use Rattle.judged_file.proofs.Judged.{AcceptedAs, said_refused, said_accepted, judged_at}
-use Rattle.column_listing.specs.Answers.{listing_number}
-use Rattle.column_records.specs.Records.{records_in}
-use Rattle.column_records.proofs.Replies.{columns_there, records_refused, records_there, refused_reply, accepted_reply, number_is}
+use Rattle.std.proofs.lemmas.Result.{err_from_is_err_and}
+use Rattle.lent_text.proofs.Printed.{printed_written}
+use Rattle.judged_file.proofs.Judged.{said_refused}
+use Rattle.column_records.specs.Records.{records_of, records_in}
+use Rattle.column_records.proofs.Replies.{records_at, records_said, no_room, all_put}
 use Rattle.column_records.proofs.columns.records.Goals as goal
 
-pub write_records-requires : goal.write_records-requires
-write_records-requires c =
-    let given : AcceptedAs (judge_file c.args.file.now) c.in-Accepted.places c.in-Accepted.field-1 c.in-Accepted.field-2 = said_accepted _ c.judge-judgement.result.judgement c.judge-judgement.ensures.judgement _ _ _ c.in-Accepted.is in
-    let s = c.args.file.now in
-    let a = given in
-    (omega (arith, few_columns s _ (judged_at s _ _ _ a)), columns_there s _ _ _ a)
+pub returns-in_err-judged : goal.returns-in_err-judged
+unfolding records_of records_in
+returns-in_err-judged c =
+    let p = err_from_is_err_and c.from_residual.result c.from_residual.ensures.1 in
+    let e = said_refused _ _ c.judge.result c.judge.ensures.judged c.in_err-judged.field-0.0 c.in_err-judged.was in
+    record { answer = rw (p.1, p.2, e); lent = rw e; number = rw (p.1, p.2, e) }
 
-pub returns-in-Refused : goal.returns-in-Refused
-returns-in-Refused c =
-    let r = refused_reply c.args.file.now c.args.out.now _ (records_refused c.args.file.now _ (said_refused _ c.judge-judgement.result.judgement c.judge-judgement.ensures.judgement _ c.in-Refused.is)) in record { answer = r.0; lent = r.1; number = ap listing_number r.0 ∙ number_is (records_in c.args.file.now c.args.out.now) }
+pub overflow_mul-places : goal.overflow_mul-places
+overflow_mul-places c =
+    let t = records_said c.args.file.now c.judge.result c.judge.ensures.judged c.in_ok-judged.judged c.in_ok-judged.was in
+    omega (arith, t.few)
 
-pub returns-in-Accepted : goal.returns-in-Accepted
-returns-in-Accepted c =
-    let given : AcceptedAs (judge_file c.args.file.now) c.in-Accepted.places c.in-Accepted.field-1 c.in-Accepted.field-2 = said_accepted _ c.judge-judgement.result.judgement c.judge-judgement.ensures.judgement _ _ _ c.in-Accepted.is in
-    let r = accepted_reply c.args.file.now c.args.out.now _ _ _ (records_there c.args.file.now _ _ _ given) (c.write_records.ensures.reply, c.write_records.ensures.lent) in record { answer = r.0; lent = r.1; number = ap listing_number r.0 ∙ number_is (records_in c.args.file.now c.args.out.now) }
+pub returns-then-out-places : goal.returns-then-out-places
+returns-then-out-places c =
+    let t = records_said c.args.file.now c.judge.result c.judge.ensures.judged c.in_ok-judged.judged c.in_ok-judged.was in
+    let e = no_room c.args.file.now c.args.out.now _ t.is (omega (arith, t.size, c.if-out-places.true)) in
+    record { answer = rw e; lent = rw e; number = rw e }
+
+pub returns : goal.returns
+returns c =
+    let t = records_said c.args.file.now c.judge.result c.judge.ensures.judged c.in_ok-judged.judged c.in_ok-judged.was in
+    let fits : length (records_at c.args.file.now c.in_ok-judged.judged) ≤ length c.args.out.now = omega (arith, t.size, c.if-out-places.false) in
+    let e = all_put c.args.file.now c.args.out.now _ t.is fits in
+    let put = printed_written (rw c.new-caller.ensures at c.put_records.ensures) refl fits in
+    record { answer = rw (e, put.0); lent = (search rules) ∙ put.1 ∙ rw e; number = rw e }

@@ -1,9 +1,10 @@
--- `builder_bytes`: 80 bytes put over 80 bytes leave nothing of these. Assumes nothing.
-use borrow.Author.Rules.{rules}
-use Rattle.lent_bytes.specs.Bytes.{number_bytes}
-use Rattle.export_reports.specs.Report.{each_lane, builder_bytes}
+-- `builder_bytes`: they fill the buffer. Assumes nothing.
+use Rattle.std.proofs.Common.{refl, rules}
+use Rattle.export_reports.proofs.Lengths.{builder_length}
+use Rattle.export_reports.proofs.Parts.{printed_whole}
 use Rattle.export_reports.proofs.report.builder_bytes.Goals as goal
 
 pub returns : goal.returns
-unfolding builder_bytes each_lane number_bytes
-returns c = search rules
+returns c =
+    let whole = printed_whole c.put_builder.ensures refl (builder_length c.args.builder.now) in
+    search (rules, whole, c.put_builder.ensures.buffer)

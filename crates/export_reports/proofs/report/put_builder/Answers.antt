@@ -1,23 +1,14 @@
--- `put_builder`: likelihoods, compensations, counts. Assumes nothing.
-use native.Mathlib.Omega.{arith}
-use Rattle.export_reports.specs.Report.{builder_bytes}
-use Rattle.export_reports.proofs.Puts.{put_then, put_length}
-use Rattle.export_reports.proofs.Lengths.{patterns_length}
+-- `put_builder`: its three parts. Assumes nothing.
+use Rattle.std.proofs.Common.{arith}
+use Rattle.std.specs.Float.{nan}
+use Rattle.lent_bytes.specs.Bytes.{four_bytes}
+use Rattle.lent_text.proofs.Printed.{print_then, printed_as}
+use Rattle.export_reports.specs.Report.{pattern_of, builder_bytes}
+use Rattle.export_reports.proofs.Parts.{four_parts}
 use Rattle.export_reports.proofs.report.put_builder.Goals as goal
 
-pub put_patterns-b-requires : goal.put_patterns-b-requires
-put_patterns-b-requires c =
-    omega (arith, c.put_patterns-a.ensures.place, patterns_length c.args.builder.likelihoods)
-
-pub put_counts-requires : goal.put_counts-requires
-put_counts-requires c =
-    omega (arith, c.put_patterns-a.ensures.place, c.put_patterns-b.ensures.place, patterns_length c.args.builder.likelihoods, patterns_length c.args.builder.compensations)
-
--- the puts, one after another
 pub returns : goal.returns
 unfolding builder_bytes
 returns c =
-    put_then (put_then c.put_patterns-a.ensures c.put_patterns-b.ensures) c.put_counts.ensures
-
-pub shape_of-out : goal.shape_of-out
-shape_of-out c = put_length (returns c)
+    let b = c.args.builder.now in
+    print_then (print_then (printed_as c.put_patterns.ensures (four_parts pattern_of b.likelihoods nan (omega arith))) (printed_as c.put_patterns-2.ensures (four_parts pattern_of b.compensations nan (omega arith)))) (printed_as c.put_counts.ensures (four_parts four_bytes b.observations 0 (omega arith)))

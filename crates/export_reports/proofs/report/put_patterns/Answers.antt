@@ -1,27 +1,14 @@
--- `put_patterns`: four puts of 8 bytes. Assumes nothing.
-use native.Mathlib.Omega.{arith}
-use Rattle.export_reports.specs.Report.{each_lane}
-use Rattle.lent_bytes.proofs.Numbers.{bytes_length}
-use Rattle.export_reports.proofs.Puts.{put_then, put_length}
+-- `put_patterns`: one more is printed. Assumes nothing.
+use Rattle.std.proofs.Common.{sym, ap, ◌∙◌, arith}
+use Rattle.std.specs.Int.{w64}
+use Rattle.lent_bytes.specs.Bytes.{number_bytes}
+use Rattle.lent_bytes.proofs.Numbers.{le_bytes}
+use Rattle.lent_text.proofs.Printed.{print_then, printed_as}
+use Rattle.export_reports.specs.Report.{pattern_of}
+use Rattle.export_reports.proofs.Parts.{one_part}
 use Rattle.export_reports.proofs.report.put_patterns.Goals as goal
 
-pub put_number-c-requires : goal.put_number-c-requires
-put_number-c-requires c = omega (arith, c.put_number-a.ensures.place, bytes_length 8 c.pattern.result)
-
-pub put_number-g-requires : goal.put_number-g-requires
-put_number-g-requires c =
-    omega (arith, c.put_number-a.ensures.place, c.put_number-c.ensures.place, bytes_length 8 c.pattern.result, bytes_length 8 c.pattern-2.result)
-
-pub put_number-requires : goal.put_number-requires
-put_number-requires c =
-    omega (arith, c.put_number-a.ensures.place, c.put_number-c.ensures.place, c.put_number-g.ensures.place, bytes_length 8 c.pattern.result, bytes_length 8 c.pattern-2.result, bytes_length 8 c.pattern-3.result)
-
--- the puts, one after another
-pub returns : goal.returns
-unfolding each_lane
-returns c =
-    rw (← c.pattern.ensures, ← c.pattern-2.ensures, ← c.pattern-3.ensures, ← c.pattern-4.ensures)
-    (put_then (put_then (put_then c.put_number-a.ensures c.put_number-c.ensures) c.put_number-g.ensures) c.put_number.ensures)
-
-pub shape_of-out : goal.shape_of-out
-shape_of-out c = put_length (returns c)
+pub loop-x-preserved : goal.loop-x-preserved
+loop-x-preserved c =
+    let is_pattern = c.to_le_bytes.ensures ∙ le_bytes w64 c.pattern.result ∙ ap (number_bytes 8) c.pattern.ensures in
+    printed_as (print_then c.loop-x.invariant (printed_as c.bytes.ensures is_pattern)) (sym (one_part pattern_of c.args.numbers.now _ c.loop-x.x-index (omega arith)))

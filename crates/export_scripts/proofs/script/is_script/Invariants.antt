@@ -1,12 +1,10 @@
--- `is_script`: what is left decides, at each turn. Assumes nothing.
-use mathlib.Core.Path.{◌≡◌}
-use Prim.Native.Nat.{◌-◌, ◌≤◌}
-use lib.ListN.{length, drop}
+-- `is_script`: what is left decides. Assumes nothing.
+use Rattle.std.proofs.Common.{◌≡◌, length}
 use Rattle.export_scripts.specs.Script.{is_script}
 use Rattle.export_scripts.proofs.script.is_script.Given as goal
 
-abbrev pub invariant-loop-i : goal.invariant-loop-i
-invariant-loop-i l = (l.i ≤ length l.script) × (is_script l.most (drop l.i l.script) ≡ is_script l.most l.script)
+abbrev pub invariant-loop-rest : goal.invariant-loop-rest
+invariant-loop-rest l = is_script l.most l.rest ≡ is_script l.most l.script
 
-abbrev pub decreases-loop-i : goal.decreases-loop-i
-decreases-loop-i l = length l.script - l.i
+abbrev pub decreases-loop-rest : goal.decreases-loop-rest
+decreases-loop-rest l = length l.rest

@@ -1,16 +1,14 @@
--- `calls`: nothing of a refused file, and else all rounds over the columns where the reading puts them. Assumes nothing.
-use Rattle.std.proofs.Common.{sym, ◌∙◌}
-use Rattle.column_file.specs.Reading.{read_file}
-use Rattle.column_file.proofs.Readings.{read-refused, read_accepted}
-use Rattle.export_timing.proofs.ColumnAmounts.{calls_refused, calls_accepted}
+-- `calls`: all rounds over the columns where the reading puts them. Assumes nothing.
+use Rattle.std.proofs.Common.{sym, ◌∙◌, rules}
+use Rattle.column_file.specs.Places.{columns_at}
+use Rattle.column_calls.specs.Callers.{called_by}
+use Rattle.export_timing.specs.Columns.{amounts_with}
+use Rattle.export_timing.proofs.Sums.{calls_accepted}
 use Rattle.export_timing.proofs.columns.calls.Goals as goal
 
-pub returns-in-Refused : goal.returns-in-Refused
-returns-in-Refused c =
-    let s = c.args.file.now in
-    sym (calls_refused s _ _ (read-refused (read_file s) c.read-reading.result c.read-reading.ensures.reading _ c.in-Refused.is))
-
-pub returns-in-Accepted : goal.returns-in-Accepted
-returns-in-Accepted c =
-    let s = c.args.file.now in
-    c.times_accepted.ensures ∙ sym (calls_accepted s c.args.times c.in-Accepted.places (read_accepted (read_file s) c.read-reading.result c.read-reading.ensures.reading c.in-Accepted.places c.in-Accepted.is))
+pub returns : goal.returns
+returns c =
+    let places = c.in_ok-places.places in
+    let more = amounts_with (called_by c.new-caller.result) (columns_at c.args.file.now places.columns places.count) in
+    let accepted = rw c.read.ensures.reading at (sym c.ok.ensures.value ∙ c.in_ok-places.was) in
+    c.repeated.ensures more (λ sum after post. search rules) ∙ rw c.new-caller.ensures (sym (calls_accepted c.args.file.now c.args.times places accepted))

@@ -1,16 +1,14 @@
--- `add_run`: the sum and what is left to add are all, at each turn. Assumes nothing.
-use Rattle.std.proofs.Common.{◌≡◌, ◌+◌, ◌-◌, ◌%◌, ◌^◌, ◌<◌, ◌≤◌, length, drop}
-use Rattle.unanimous_shortcut.specs.Unanimous.{tables_of}
-use Rattle.rate_tables.specs.Adjusted.{adjusted_of}
+-- `add_run`: what the items that are left add to the sum so far is the sum of all. Assumes nothing.
+use Rattle.std.proofs.Common.{◌≡◌, ◌+◌, ◌%◌, ◌^◌}
 use Rattle.export_scripts.specs.Script.{items}
 use Rattle.export_timing.specs.Times.{amounts}
 use Rattle.export_timing.proofs.scripts.add_run.Given as goal
 
-abbrev pub invariant-loop-i : goal.invariant-loop-i
-invariant-loop-i l =
-    (l.i ≤ length l.script)
-    × ((l.total + amounts (adjusted_of l.correct l.error_per_alt) (tables_of l.thresholds l.cerr_min l.cap) (items (drop l.i l.script)) l.builder) % 2 ^ 64 ≡ (l.sum + amounts (adjusted_of l.correct l.error_per_alt) (tables_of l.thresholds l.cerr_min l.cap) (items l.script) l.initial.builder) % 2 ^ 64)
-    × (l.total < 2 ^ 64)
-
-abbrev pub decreases-loop-i : goal.decreases-loop-i
-decreases-loop-i l = length l.script - l.i
+abbrev pub invariant-loop-item : goal.invariant-loop-item
+invariant-loop-item l =
+    let left = l.item-iterator in
+    record {
+      can_next : (goal.iterator-loop-item).can_next left;
+      is_finite : (goal.iterator-loop-item).is_finite left;
+      added : (l.total + amounts l.adjusted l.gaps (items left.0.now) l.builder) % 2 ^ 64 ≡ (l.fn.sum + amounts l.adjusted l.gaps (items l.script) l.fn.start) % 2 ^ 64;
+    }

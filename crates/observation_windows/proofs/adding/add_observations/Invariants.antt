@@ -1,17 +1,13 @@
--- `add_observations`: what is left of the bytes brings the builder to where all of them bring the first one, and the room that is left is counted.
--- Assumes nothing.
+-- `add_observations`: the pairs that are left bring the builder to where all bytes bring the first one, and the room that is left is counted. Assumes nothing.
 use mathlib.Core.Path.{◌≡◌}
-use Prim.Native.Nat.{◌-◌, ◌≤◌}
-use lib.ListN.{length, drop}
+use Prim.Native.Nat.{◌-◌}
+use Rattle.std.specs.Slice.Iter.{chunks_exact_rest, chunks_exact_size}
 use Rattle.base_builder.specs.Builder.{total, full_count}
 use Rattle.observation_windows.specs.Windows.{all_added}
 use Rattle.observation_windows.proofs.adding.add_observations.Given as goal
 
-abbrev pub invariant-loop-i : goal.invariant-loop-i
-invariant-loop-i l =
-    (l.i ≤ length l.observations)
+abbrev pub invariant-loop-pair : goal.invariant-loop-pair
+invariant-loop-pair l =
+    (chunks_exact_size l.pair-iterator ≡ 2)
     × (l.left ≡ full_count - total l.after.observations)
-    × (all_added l.rows l.after (drop l.i l.observations) ≡ all_added l.rows l.initial.after l.observations)
-
-abbrev pub decreases-loop-i : goal.decreases-loop-i
-decreases-loop-i l = length l.observations - l.i
+    × (all_added l.windows.rows l.after (chunks_exact_rest l.pair-iterator) ≡ all_added l.windows.rows l.initial.after l.observations)

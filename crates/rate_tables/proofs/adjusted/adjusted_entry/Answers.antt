@@ -1,18 +1,17 @@
--- `adjusted_entry`: what each table holds at the quality. Assumes nothing.
-use mathlib.Core.Path.{◌≡◌, sym, ap, ◌∙◌}
-use Prim.Native.Nat.{ℕ, min}
+-- `adjusted_entry`: the entry of a level is what the level gives. Assumes nothing.
+use Prim.Native.Nat.{◌<◌}
 use native.Mathlib.Omega.{arith}
-use lib.ListN.{get_or}
-use lib.Ieee.{Float, nan}
-use Rattle.rate_tables.specs.Tables.{levels}
-use Rattle.rate_tables.specs.Adjusted.{correct_at, error_per_alt_at, adjusted_tables}
+use Rattle.std.specs.Float.{nan}
 use Rattle.words.proofs.Listed.{level_at}
+use Rattle.rate_tables.specs.Adjusted.{adjusted_tables, correct_at, error_per_alt_at}
 use Rattle.rate_tables.proofs.adjusted.adjusted_entry.Goals as goal
-
--- what a rule says at the quality is the table's entry there
-entry_at : (f : ℕ → Float) (qual q : ℕ) (x : Float) → q ≡ min qual 93 → x ≡ f q → x ≡ get_or (levels f) (min qual 93) nan
-entry_at f qual q x e h = h ∙ ap f e ∙ sym (level_at f nan 94 (min qual 93) (omega arith))
 
 pub returns : goal.returns
 unfolding adjusted_tables
-returns c = record { correct = entry_at (correct_at _) _ _ _ c.entry_quality-q.ensures c.correct_at-correct.ensures; error = entry_at (error_per_alt_at _) _ _ _ c.entry_quality-q.ensures c.error_per_alt_at-error_per_alt.ensures }
+returns c =
+    let post = c.args.error_rate_post_umi.0 in
+    let q = c.min-q.result in
+    let inside : q < 94 = omega arith in
+    let correct = level_at (correct_at post) nan 94 q inside in
+    let error = level_at (error_per_alt_at post) nan 94 q inside in
+    cc

@@ -1,33 +1,19 @@
--- `alike_consensus`: lengths that differ are refused, and otherwise the group's consensus is given. Assumes nothing.
-use mathlib.Core.Path.{◌≡◌, refl, sym, ◌∙◌}
-use mathlib.Core.List.{List}
-use Prim.Native.Nat.{ℕ}
-use native.Mathlib.Omega.{arith}
-use borrow.Author.Tests.{not-true, not-false}
+use Rattle.std.proofs.Common.{◌≡◌, refl, sym, ◌∙◌, List, ℕ, arith}
 use Rattle.simple_consensus.specs.Strings.{alike}
 use Rattle.simple_consensus.specs.Places.{strings_at}
 use Rattle.simple_consensus.proofs.Groups.{strings_alike, umis_alike, umis_unlike, group_said}
 use Rattle.simple_consensus.proofs.group.alike_consensus.Goals as goal
 
-pub returns-then-not-alike : goal.returns-then-not-alike
-returns-then-not-alike c =
+pub returns-then-not-are_alike : goal.returns-then-not-are_alike
+returns-then-not-are_alike c =
     let strings : List (List ℕ) = strings_at 0 c.args.set.now c.args.places.now in
-    let tested : alike strings ≡ c.alike.result = strings_alike 0 c.args.set.now c.args.places.now c.requires ∙ sym c.alike.ensures in record { group = rw (umis_unlike c.args.caller strings (tested ∙ c.if-not-alike.true)) c.refused_consensus.ensures; lent = rw (umis_unlike c.args.caller strings (tested ∙ c.if-not-alike.true)) refl; few = rw (umis_unlike c.args.caller strings (tested ∙ c.if-not-alike.true)) (omega arith) }
+    let tested : alike strings ≡ c.are_alike.result = strings_alike 0 c.args.set.now c.args.places.now c.requires ∙ sym c.are_alike.ensures in
+    let unlike = umis_unlike c.args.caller strings (tested ∙ c.if-not-are_alike.true) in
+    record { group = rw unlike refl; lent = rw unlike refl; few = rw unlike (omega arith) }
 
 pub returns : goal.returns
 returns c =
     let strings : List (List ℕ) = strings_at 0 c.args.set.now c.args.places.now in
-    let tested : alike strings ≡ c.alike.result = strings_alike 0 c.args.set.now c.args.places.now c.requires ∙ sym c.alike.ensures in record {
-      group = rw (
-        umis_alike c.args.caller strings (tested ∙ c.if-not-alike.false),
-        ← group_said c.args.caller 0 c.args.set.now c.args.places.now c.requires,
-      ) c.group_consensus.ensures.group;
-      lent = rw (
-        umis_alike c.args.caller strings (tested ∙ c.if-not-alike.false),
-        ← group_said c.args.caller 0 c.args.set.now c.args.places.now c.requires,
-      ) c.group_consensus.ensures.lent;
-      few = rw (
-        umis_alike c.args.caller strings (tested ∙ c.if-not-alike.false),
-        ← group_said c.args.caller 0 c.args.set.now c.args.places.now c.requires,
-      ) c.group_consensus.ensures.few;
-    }
+    let tested : alike strings ≡ c.are_alike.result = strings_alike 0 c.args.set.now c.args.places.now c.requires ∙ sym c.are_alike.ensures in
+    let same = umis_alike c.args.caller strings (tested ∙ c.if-not-are_alike.false) ∙ sym (group_said c.args.caller 0 c.args.set.now c.args.places.now c.requires) in
+    record { group = rw same c.group_consensus.ensures.group; lent = rw same c.group_consensus.ensures.lent; few = rw same c.group_consensus.ensures.few }

@@ -1,18 +1,10 @@
--- `strand_consensus`: the group of the strings that were kept; a text of 255 bytes holds any answer. Assumes nothing.
-use mathlib.Core.Path.{◌≡◌, sym, ◌∙◌, ap}
-use native.Mathlib.Omega.{arith}
-use lib.ListN.{take}
-use lib.Seq.{length-take-le}
+use Rattle.std.proofs.Common.{◌≡◌, take, ◌∙◌, ap, arith}
 use Rattle.umi_groups.proofs.Room.{room_fits}
 use Rattle.simple_consensus.specs.Consensus.{consensus_of}
 use Rattle.simple_consensus.specs.Places.{strings_at, group_by}
 use Rattle.simple_consensus.proofs.Groups.{group_said}
 use Rattle.simple_umi.specs.Duplex.{strand_of}
 use Rattle.simple_umi.proofs.duplex.strand_consensus.Goals as goal
-
-pub slice_bounds-group_consensus-end : goal.slice_bounds-group_consensus-end
-slice_bounds-group_consensus-end c =
-    sym (length-take-le c.strand_places-n.result c.strand_places-n.new.kept c.strand_places-n.ensures.inside.0)
 
 pub returns : goal.returns
 returns c =

@@ -1,11 +1,17 @@
--- `fgbio_unique_max_index`: the answer of the lane that the scan ends with. Assumes nothing.
-use mathlib.Core.Path.{ap, ◌∙◌}
-use Rattle.tie_rules.specs.declared.tie_rule.Scan.{Scan}
-use Rattle.tie_rules.specs.Ties.{fgbio_unique_max_index}
-use Rattle.tie_rules.specs.UniqueMax.{unique_max_at}
-use Rattle.tie_rules.proofs.Answered.{fgbio_one, answered}
+-- `fgbio_unique_max_index`: the lane that fgbio's scan ends with. Assumes nothing.
+use Rattle.std.proofs.Common.{Some, None, rules, sym, ◌∙◌}
+use Rattle.tie_rules.specs.Ties.{fgbio_step}
+use Rattle.tie_rules.proofs.Named.{fgbio_answer}
 use Rattle.tie_rules.proofs.unique_max.fgbio_unique_max_index.Goals as goal
 
+pub returns-in_err-scan : goal.returns-in_err-scan
+returns-in_err-scan c =
+    let e = c.scan.ensures fgbio_step (λ s k x t h. search rules) in
+    let a = fgbio_answer c.args.likelihoods None (sym c.in_err-scan.was ∙ e) in
+    rw c.from_residual.ensures (record { answer = a.answer; lane = a.lane; inside = a.inside })
+
 pub returns : goal.returns
-unfolding fgbio_unique_max_index
-returns c = let said = answered _ _ (fgbio_one _) (c.unique_max_at.ensures ∙ ap (λ (r : Scan). unique_max_at r.at) c.fgbio_scan.ensures) in record { answer = said.0; lane = said.1 }
+returns c =
+    let e = c.scan.ensures fgbio_step (λ s k x t h. search rules) in
+    let a = fgbio_answer c.args.likelihoods (Some c.in_ok-scan.field-0) (sym c.in_ok-scan.was ∙ e) in
+    record { answer = a.answer; lane = a.lane; inside = a.inside }

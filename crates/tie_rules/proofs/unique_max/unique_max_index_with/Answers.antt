@@ -1,8 +1,10 @@
--- `unique_max_index_with`: the answer of the rule's lane. Assumes nothing.
-use mathlib.Core.Path.{ap, ◌∙◌}
-use Rattle.tie_rules.specs.UniqueMax.{unique_max_at}
-use Rattle.tie_rules.proofs.Answered.{rule_one, answered}
+-- `unique_max_index_with`: by the rule. Assumes nothing.
+use Rattle.tie_rules.specs.Ties.{unique_max_index_with}
 use Rattle.tie_rules.proofs.unique_max.unique_max_index_with.Goals as goal
 
-pub returns : goal.returns
-returns c = let said = answered _ _ (rule_one _ _) (c.unique_max_at.ensures ∙ ap unique_max_at c.max_lane_with.ensures) in record { answer = said.0; lane = said.1 }
+pub returns-in-UlpRelative : goal.returns-in-UlpRelative
+unfolding unique_max_index_with
+returns-in-UlpRelative c = let a = c.unique_max_index.ensures in rw c.in-UlpRelative.is (record { answer = a.answer; lane = a.lane; inside = a.inside })
+
+pub returns-in-FgbioCompat : goal.returns-in-FgbioCompat
+returns-in-FgbioCompat c = let a = c.fgbio_lead.ensures in rw c.in-FgbioCompat.is (record { answer = a.answer; lane = a.lane; inside = a.inside })

@@ -1,4 +1,3 @@
--- `consensus_byte`: the lanes and the rule are the builder's. Assumes nothing.
 use Rattle.umi_column.specs.Calls.{named_byte}
 use Rattle.umi_column.specs.Sums.{byte_by}
 use Rattle.umi_column.proofs.calls.consensus_byte.Goals as goal

@@ -1,7 +1,6 @@
 -- `add_base`: a byte that is no base, and one that is: what lies in the window from its start on is what the definition reads. Assumes nothing.
 use mathlib.Core.Path.{sym, ◌∙◌}
 use native.Mathlib.Nat.{add-zero}
-use borrow.Author.Tests.{not-true}
 use Rattle.tie_rules.specs.Lanes.{lanes}
 use Rattle.umi_column.specs.Sums.{summed_by}
 use Rattle.umi_column.proofs.sums.add_base.Goals as goal

@@ -25,8 +25,8 @@ step t gap p h =
     let e : p ≡ 94 = omega (arith, ltb-false p 94 l) in
     rw e (test (le (entry t 93) gap) (λ k. rw k) (λ k. rw k)))
 
-pub returns-then-thresholds-i : goal.returns-then-thresholds-i
-returns-then-thresholds-i c = record { step = rw (step _ _ _ c.requires, ← c.place-i.ensures, c.if-thresholds-i.true); held = omega arith }
+pub returns-then-thresholds-i-clause-step : goal.returns-then-thresholds-i-clause-step
+returns-then-thresholds-i-clause-step c = rw (step _ _ _ c.requires, ← c.min-i.ensures, c.if-thresholds-i.true)
 
-pub returns : goal.returns
-returns c = record { step = rw (step _ _ _ c.requires, ← c.place-i.ensures, c.if-thresholds-i.false); held = c.requires }
+pub returns-else-thresholds-i-clause-step : goal.returns-else-thresholds-i-clause-step
+returns-else-thresholds-i-clause-step c = rw (step _ _ _ c.requires, ← c.min-i.ensures, c.if-thresholds-i.false)

@@ -1,34 +1,42 @@
 -- `put`: each condition in its order, and the part written. Assumes nothing.
-use mathlib.Core.Path.{sym, ◌∙◌}
-use borrow.Author.Tests.{ltb-false}
-use Rattle.string_set.specs.Readers.{longest_file}
-use Rattle.column_writer.proofs.Said.{it_fails, it_holds, not_in_turn, is_too_long, part_refused, part_read}
+use mathlib.Core.Path.{refl, sym, ◌∙◌}
+use native.Mathlib.Omega.{arith}
+use borrow.Author.Tests.{leb-true, leb-false}
+use Rattle.lent_bytes.proofs.Buffer.{short_written_at}
+use Rattle.std.proofs.lemmas.Result.{err_from_is_err_and}
+use Rattle.column_writer.proofs.Said.{said, not_in_turn, is_too_long, part_refused, no_room, part_put}
 use Rattle.column_writer.proofs.writer.Writer.put.Goals as goal
 
 pub returns-then-not-in_turn : goal.returns-then-not-in_turn
-returns-then-not-in_turn c = let said = not_in_turn c.args.self c.args.kind c.args.part.now c.args.file.now _ (it_fails _ _ c.in_turn.ensures c.if-not-in_turn.true) c.unchanged.ensures in record { step = said.0; lent = said.1.0; number = said.1.1 }
-
-pub returns-then-too_long : goal.returns-then-too_long
-returns-then-too_long c =
-    let turn = it_holds _ _ c.in_turn.ensures c.if-not-in_turn.false in let said = is_too_long c.args.self c.args.kind c.args.part.now c.args.file.now _ turn (sym c.too_long.ensures ∙ c.if-too_long.true) c.unchanged-then-too_long.ensures in record { step = said.0; lent = said.1.0; number = said.1.1 }
-
-pub write_part-requires : goal.write_part-requires
-write_part-requires c = ltb-false longest_file _ (sym c.too_long.ensures ∙ c.if-too_long.false)
-
-pub returns-in-Refused : goal.returns-in-Refused
-returns-in-Refused c =
+returns-then-not-in_turn c =
     let a = c.args in
-    let turn = it_holds _ _ c.in_turn.ensures c.if-not-in_turn.false in
-    let short = sym c.too_long.ensures ∙ c.if-too_long.false in
-    let judged = sym c.in-Refused.is ∙ c.next_stage-judged.ensures in
-    let said = part_refused a.self a.kind a.part.now a.file.now _ turn short _ judged c.unchanged-in-Refused.ensures in
-    record { step = said.0; lent = said.1.0; number = said.1.1 }
+    said a.self a.kind a.part.now a.file.now _ _ _ (not_in_turn a.self a.kind a.part.now a.file.now (sym c.if-not-in_turn.ensures)) refl refl
 
-pub returns-in-Stage : goal.returns-in-Stage
-returns-in-Stage c =
+pub returns-then-saturating_add-gt-LONGEST_FILE : goal.returns-then-saturating_add-gt-LONGEST_FILE
+returns-then-saturating_add-gt-LONGEST_FILE c =
     let a = c.args in
-    let turn = it_holds _ _ c.in_turn.ensures c.if-not-in_turn.false in
-    let short = sym c.too_long.ensures ∙ c.if-too_long.false in
-    let judged = sym c.in-Stage.is ∙ c.next_stage-judged.ensures in
-    let said = part_read a.self a.kind a.part.now a.file.now _ turn short _ _ judged c.write_part.ensures.step c.write_part.ensures.lent in
-    record { step = said.0; lent = said.1.0; number = said.1.1 }
+    let long = is_too_long a.self a.kind a.part.now a.file.now (sym c.if-not-in_turn.ensures) (omega arith) in
+    said a.self a.kind a.part.now a.file.now _ _ _ long refl refl
+
+pub returns-in_err-stage : goal.returns-in_err-stage
+returns-in_err-stage c =
+    let a = c.args in
+    let p = err_from_is_err_and c.from_residual.result c.from_residual.ensures.1 in
+    let refused = part_refused a.self a.kind a.part.now a.file.now (sym c.if-not-in_turn.ensures) (omega arith) _ (sym c.in_err-stage.ensures) in
+    rw (p.1, p.2) (said a.self a.kind a.part.now a.file.now _ _ _ refused refl refl)
+
+pub returns-then-not-write_at : goal.returns-then-not-write_at
+returns-then-not-write_at c =
+    let a = c.args in
+    let short = leb-false _ _ (sym c.if-not-write_at.ensures.reply) in
+    let none = no_room a.self a.kind a.part.now a.file.now (sym c.if-not-in_turn.ensures) (omega arith) _ (sym c.in_ok-stage.ensures) short in
+    said a.self a.kind a.part.now a.file.now _ _ _ none refl (c.write_at.ensures.lent ∙ sym (short_written_at a.self.written a.part.now a.file.now short))
+
+pub overflow_add-written : goal.overflow_add-written
+overflow_add-written c = omega arith
+
+pub returns : goal.returns
+returns c =
+    let a = c.args in
+    let put = part_put a.self a.kind a.part.now a.file.now (sym c.if-not-in_turn.ensures) (omega arith) _ (sym c.in_ok-stage.ensures) (leb-true _ _ (sym c.if-not-write_at.ensures.reply)) in
+    said a.self a.kind a.part.now a.file.now _ _ _ put refl c.write_at.ensures.lent

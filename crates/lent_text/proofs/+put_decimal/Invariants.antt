@@ -1,5 +1,0 @@
--- `put_decimal`: each call of itself has a smaller number. Assumes nothing.
-use Rattle.lent_text.proofs.+put_decimal.Given as goal
-
-abbrev pub decreases-put_decimal : goal.decreases-put_decimal
-decreases-put_decimal l = l.n
