@@ -2,6 +2,8 @@
 // standard output.
 #![tactic(auto)]
 
+ghost use Rattle.column_errors.specs.ErrorSums.{error_sums_of};
+
 use column_errors::TEXT_ROOM;
 use std::process::ExitCode;
 use stream_program::Program;
@@ -10,6 +12,8 @@ use streams::INPUT_ROOM;
 struct ErrorSums;
 
 impl Program<TEXT_ROOM> for ErrorSums {
+    ghost said = { λ p s. error_sums_of s };
+
     const NAME: &'static str = "error_sums";
 
     fn print(&self, room: &[u8; INPUT_ROOM], read: usize, text: &mut [u8; TEXT_ROOM]) -> usize {
