@@ -7,7 +7,7 @@
  *   - a pointer points to at least LENGTH elements; where LENGTH is 0 it may be any pointer except NULL;
  *   - OUT overlaps no input, and nothing else writes to either while the call runs;
  *   - the floating point unit rounds to nearest and keeps subnormal numbers, as it does when a program starts;
- *   - 64 KiB of stack are free (the most that was measured is 27 KB, in consensus_records);
+ *   - 64 KiB of stack are free (the most that was measured is 34 KB, in consensus_records);
  *   - the platform is x86-64 with the System V calling convention (Linux).
  *
  * An answer that does not fit OUT is not written at all. Bytes of OUT behind an answer are unchanged. Numbers in answers have

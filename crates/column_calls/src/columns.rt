@@ -57,7 +57,8 @@ impl ColumnCaller {
     ghost use Rattle.column_calls.specs.Columns.{called_column};
     ghost use Rattle.column_calls.specs.Callers.{called_by};
 
-    // That of a file's settings.
+    // That of a file's settings. Inlined, so that the tables are not copied from one frame to the next.
+    #[inline(always)]
     pub fn new(settings: Settings) -> Self
         ensures { called_by result ≡ called_column settings }
     {

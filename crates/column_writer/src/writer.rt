@@ -2,6 +2,8 @@
 // form and judged as the reader judges it.
 // kept: no plainer: what is read and the buffer that is written are two borrows, which a struct would only join
 ghost use Rattle.std.specs.Prelude.{◌≡◌};
+ghost use Rattle.std.specs.Result.{result_unwrap_or};
+ghost use Rattle.refusals.specs.Refusals.{number_in};
 ghost use Rattle.column_writer.specs.declared.stages.PartKind.TheVariants.{Settings as settings, Column as column, Strings as strings};
 
 use crate::stages::{PartKind, Stage, awaits_finish, in_turn, next_stage};
@@ -18,7 +20,7 @@ pub struct Writer {
 
 // Each step answers the writer after it. A refusal leaves the caller's writer and the buffer as they were.
 impl Writer {
-    ghost use Rattle.column_writer.specs.Writing.{new_writer, put_in, finish_of, file_after};
+    ghost use Rattle.column_writer.specs.Writing.{new_writer, put_in, finish_of, writer_after, file_after};
 
     pub fn new() -> Writer
         ensures { result ≡ new_writer }
@@ -32,7 +34,9 @@ impl Writer {
     // A part, whichever it is.
     pub fn put(self, kind: PartKind, part: &[u8], file: &mut [u8]) -> Result<Writer, Refusal>
         ensures step { result ≡ put_in self kind part.now file.old }
+        ensures writer { result_unwrap_or result self ≡ writer_after self (put_in self kind part.now file.old) }
         ensures lent { file.new ≡ file_after self part.now file.old (put_in self kind part.now file.old) }
+        ensures number { number_in result ≡ number_in (put_in self kind part.now file.old) }
     {
         if !in_turn(self.stage, kind) {
             return Err(Refusal::OutOfTurn);
@@ -51,7 +55,9 @@ impl Writer {
     // The settings, with the number of columns that are to come.
     pub fn put_settings(self, part: &[u8], file: &mut [u8]) -> Result<Writer, Refusal>
         ensures step { result ≡ put_in self settings part.now file.old }
+        ensures writer { result_unwrap_or result self ≡ writer_after self (put_in self settings part.now file.old) }
         ensures lent { file.new ≡ file_after self part.now file.old (put_in self settings part.now file.old) }
+        ensures number { number_in result ≡ number_in (put_in self settings part.now file.old) }
     {
         self.put(PartKind::Settings, part, file)
     }
@@ -59,7 +65,9 @@ impl Writer {
     // One column.
     pub fn put_column(self, part: &[u8], file: &mut [u8]) -> Result<Writer, Refusal>
         ensures step { result ≡ put_in self column part.now file.old }
+        ensures writer { result_unwrap_or result self ≡ writer_after self (put_in self column part.now file.old) }
         ensures lent { file.new ≡ file_after self part.now file.old (put_in self column part.now file.old) }
+        ensures number { number_in result ≡ number_in (put_in self column part.now file.old) }
     {
         self.put(PartKind::Column, part, file)
     }
@@ -67,14 +75,18 @@ impl Writer {
     // The string set, after the last of the announced columns.
     pub fn put_strings(self, part: &[u8], file: &mut [u8]) -> Result<Writer, Refusal>
         ensures step { result ≡ put_in self strings part.now file.old }
+        ensures writer { result_unwrap_or result self ≡ writer_after self (put_in self strings part.now file.old) }
         ensures lent { file.new ≡ file_after self part.now file.old (put_in self strings part.now file.old) }
+        ensures number { number_in result ≡ number_in (put_in self strings part.now file.old) }
     {
         self.put(PartKind::Strings, part, file)
     }
 
     // After it no step is accepted.
     pub fn finish(self) -> Result<Writer, Refusal>
-        ensures { result ≡ finish_of self }
+        ensures step { result ≡ finish_of self }
+        ensures writer { result_unwrap_or result self ≡ writer_after self (finish_of self) }
+        ensures number { number_in result ≡ number_in (finish_of self) }
     {
         if !awaits_finish(self.stage) {
             return Err(Refusal::OutOfTurn);

@@ -74,6 +74,17 @@ beyond x h k =
     (λ n. rw (is_nan_alone x n) ln_of-nan)
     (λ n. rw (h, and-false (le below_one x), k, and-false (le least x), not_le_lt x largest n largest-number k))
 
+nan_bits : bits 0x7ff8_0000_0000_0000 ≡ nan
+unfolding of_bits
+nan_bits = refl
+
+-- neither: NaN
+pub beyond_all : (x : Float) → lt x above_one ≡ false → le x largest ≡ false → lt largest x ≡ false → bits 0x7ff8_0000_0000_0000 ≡ ln_of x
+beyond_all x h k l =
+    test (is_nan x)
+    (λ n. rw (is_nan_alone x n, ln_of-nan) nan_bits)
+    (λ n. let m : lt largest x ≡ true = not_le_lt x largest n largest-number k in absurd cc)
+
 pub ruleset ln_ranges = (low_below_one, low_at_most, low_not_above, middle, high, beyond, minus_infinity, not_a_number)
 
 -- ---- ln(1 + x): about √½ - 1 and √2 - 1, and 2^-29

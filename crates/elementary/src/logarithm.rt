@@ -36,7 +36,7 @@ const A3: f64 = 0.20000304511814496;
 
 const A4: f64 = -0.16667054827627667;
 
-// ln x: -infinity at 0, and NaN below 0. Numbers below 1 come first: they are asked for most.
+// ln x: -infinity at 0, and NaN below 0 and of NaN, whatever its bits. Numbers below 1 come first: they are asked for most.
 #[tactic(auto, using(crate::proofs::LnRanges::ln_ranges), unfolding(crate::specs::Ln::ln_of))]
 pub fn ln(x: f64) -> f64
     ensures { result ≡ ln_of x }
@@ -55,8 +55,10 @@ pub fn ln(x: f64) -> f64
         ln_1p(x - 1.0)
     } else if x <= f64::MAX {
         normal(x, 1023.0)
-    } else {
+    } else if x > f64::MAX {
         x
+    } else {
+        f64::NAN
     }
 }
 

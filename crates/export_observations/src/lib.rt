@@ -2,7 +2,7 @@
 // in C or Rust compares.
 #![tactic(auto)]
 
-ghost use Rattle.std.specs.Prelude.{◌≡◌, ◌≤◌, unwrap_or};
+ghost use Rattle.std.specs.Prelude.{◌≡◌, ◌≤◌, ◌&&◌, eqb, leb, length, is_some, unwrap_or};
 ghost use Rattle.words.specs.Lists.{listed};
 ghost use Rattle.base_builder.specs.Builder.{observations_for_base};
 ghost use Rattle.lent_bytes.specs.Buffer.{length_written, written};
@@ -38,6 +38,7 @@ fn put_all(p: &mut Printer, builder: ConsensusBaseBuilder)
 // buffer is too short.
 pub fn observations(state: &[u8], out: &mut [u8]) -> Option<usize>
     ensures reply { unwrap_or result 0 ≡ length_written (observation_count_bytes state.now) out.old }
+    ensures some { is_some result ≡ (eqb (length state.now) 80 && leb 1044 (length out.old)) }
     ensures lent { out.new ≡ written (observation_count_bytes state.now) out.old }
 {
     if state.len() != 80 || out.len() < 1044 {

@@ -15,7 +15,7 @@ use Rattle.export_scripts.specs.declared.progress.Progress.{Progress}
 use Rattle.export_scripts.specs.Item.{stepped, answered}
 use Rattle.export_scripts.specs.Script.{items, is_script, questions, passed}
 use Rattle.export_reports.specs.Report.{report_of, said}
-use Rattle.export_reports.specs.Runs.{reports, script_start, script_bytes}
+use Rattle.export_reports.specs.Runs.{reports, script_start, script_bytes, is_answered}
 use Rattle.export_reports.proofs.Lengths.{reports_length}
 
 said_none : (g : UnanimousGapTables) (i : Item) (p : Progress) → ((kind : ℕ) → i ≡ Question kind → ⊥) → said g i p ≡ []
@@ -56,6 +56,27 @@ module _ (pre post rule : ℕ) (s : List ℕ) (b : ConsensusBaseBuilder) where
   -- 91 bytes for each question
   pub script_size : rule ≤ 1 → is_script 3 s ≡ true → length (script_bytes pre post rule s b) ≡ 91 * questions (items s)
   script_size h e = rw (good_script h e) (reports_length (adjusted_tables post) (gap_tables pre) (items s) (script_start rule b))
+
+-- ---- whether there is an answer
+
+module _ (rule : ℕ) (s bs out : List ℕ) where
+  pub rule_unanswered : 1 < rule → is_answered rule s bs out ≡ false
+  unfolding is_answered
+  rule_unanswered h = rw (lt-leb rule 1 h)
+
+  module _ (h : rule ≤ 1) where
+    pub script_unanswered : is_script 3 s ≡ false → is_answered rule s bs out ≡ false
+    unfolding is_answered
+    script_unanswered e = rw (le-leb rule 1 h, e)
+
+    module _ (e : is_script 3 s ≡ true) where
+      pub short_unanswered : length out < length bs → is_answered rule s bs out ≡ false
+      unfolding is_answered
+      short_unanswered l = rw (le-leb rule 1 h, e, lt-leb (length bs) (length out) l)
+
+      pub well_answered : length bs ≤ length out → is_answered rule s bs out ≡ true
+      unfolding is_answered
+      well_answered l = rw (le-leb rule 1 h, e, le-leb (length bs) (length out) l)
 
 -- ---- what a buffer then holds
 

@@ -1,5 +1,5 @@
 -- What a script writes.
-use Rattle.std.specs.Prelude.{ℕ, ◌&&◌, List, [], ◌∷◌, ◌++◌, leb}
+use Rattle.std.specs.Prelude.{ℕ, Bool, ◌&&◌, List, [], ◌∷◌, ◌++◌, length, leb}
 use Rattle.std.specs.Prelude.{if◌then◌else◌}
 use Rattle.rate_tables.specs.declared.adjusted.AdjustedProbabilityTables.{AdjustedProbabilityTables}
 use Rattle.gap_tables.specs.declared.gaps.UnanimousGapTables.{UnanimousGapTables}
@@ -27,6 +27,10 @@ unfoldable pub script_bytes : ℕ → ℕ → ℕ → List ℕ → ConsensusBase
 script_bytes pre post rule script b =
     if leb rule 1 && is_script 3 script then reports (adjusted_tables post) (gap_tables pre) (items script) (script_start rule b)
     else []
+
+-- whether there is an answer: rule and script are good, and the buffer holds what the script writes
+unfoldable pub is_answered : ℕ → List ℕ → List ℕ → List ℕ → Bool
+is_answered rule script said out = leb rule 1 && (is_script 3 script && leb (length said) (length out))
 
 -- for a new builder
 unfoldable pub history_bytes : ℕ → ℕ → ℕ → List ℕ → List ℕ

@@ -1,11 +1,11 @@
 // A script run from its first item to its last, and what it writes.
-ghost use Rattle.std.specs.Prelude.{◌≡◌, unwrap_or};
+ghost use Rattle.std.specs.Prelude.{◌≡◌, is_some, unwrap_or};
 ghost use Rattle.rate_tables.specs.Adjusted.{adjusted_tables};
 ghost use Rattle.gap_tables.specs.Gaps.{gap_tables};
 ghost use Rattle.lent_bytes.specs.Buffer.{length_written, written};
 ghost use Rattle.lent_text.specs.Printed.{Printed};
 ghost use Rattle.export_scripts.specs.Script.{items};
-ghost use Rattle.export_reports.specs.Runs.{reports, script_bytes, history_bytes};
+ghost use Rattle.export_reports.specs.Runs.{reports, script_bytes, is_answered, history_bytes};
 
 use crate::report::put_report;
 use base_builder::ConsensusBaseBuilder;
@@ -69,6 +69,7 @@ pub(crate) fn run<W: Way>(
     out: &mut [u8],
 ) -> Option<usize>
     ensures reply { unwrap_or result 0 ≡ length_written (script_bytes pre.0 post.0 rule script.now builder) out.old }
+    ensures some { is_some result ≡ is_answered rule script.now (script_bytes pre.0 post.0 rule script.now builder) out.old }
     ensures lent { out.new ≡ written (script_bytes pre.0 post.0 rule script.now builder) out.old }
 {
     if 1 < rule || !is_script(3, script) {
@@ -99,6 +100,7 @@ pub fn history_by<W: Way>(
     out: &mut [u8],
 ) -> Option<usize>
     ensures reply { unwrap_or result 0 ≡ length_written (history_bytes pre.0 post.0 rule script.now) out.old }
+    ensures some { is_some result ≡ is_answered rule script.now (history_bytes pre.0 post.0 rule script.now) out.old }
     ensures lent { out.new ≡ written (history_bytes pre.0 post.0 rule script.now) out.old }
 {
     run::<W>(ConsensusBaseBuilder::new(pre), pre, post, rule, script, out)
@@ -114,6 +116,7 @@ pub fn history(
     out: &mut [u8],
 ) -> Option<usize>
     ensures reply { unwrap_or result 0 ≡ length_written (history_bytes pre.0 post.0 rule script.now) out.old }
+    ensures some { is_some result ≡ is_answered rule script.now (history_bytes pre.0 post.0 rule script.now) out.old }
     ensures lent { out.new ≡ written (history_bytes pre.0 post.0 rule script.now) out.old }
 {
     history_by::<LentTables>(pre, post, rule, script, out)

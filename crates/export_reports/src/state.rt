@@ -1,8 +1,9 @@
 // A builder of 80 given bytes: reaches what no history gives.
-ghost use Rattle.std.specs.Prelude.{◌≡◌, unwrap_or};
+ghost use Rattle.std.specs.Prelude.{◌≡◌, ◌&&◌, eqb, length, is_some, unwrap_or};
 ghost use Rattle.float.specs.Ops.{bits};
 ghost use Rattle.lent_bytes.specs.Buffer.{length_written, written};
 ghost use Rattle.lent_bytes.specs.Bytes.{number_at};
+ghost use Rattle.export_reports.specs.Runs.{is_answered};
 ghost use Rattle.export_reports.specs.State.{builder_of, builder_script_bytes};
 
 use crate::runs::run;
@@ -43,6 +44,7 @@ pub fn from_state(
     out: &mut [u8],
 ) -> Option<usize>
     ensures reply { unwrap_or result 0 ≡ length_written (builder_script_bytes pre.0 post.0 rule state.now script.now) out.old }
+    ensures some { is_some result ≡ (eqb (length state.now) 80 && is_answered rule script.now (builder_script_bytes pre.0 post.0 rule state.now script.now) out.old) }
     ensures lent { out.new ≡ written (builder_script_bytes pre.0 post.0 rule state.now script.now) out.old }
 {
     if state.len() != 80 {

@@ -1,7 +1,7 @@
 // The tables of a pair of rates, as bytes.
 #![tactic(auto)]
 
-ghost use Rattle.std.specs.Prelude.{◌≡◌, unwrap_or};
+ghost use Rattle.std.specs.Prelude.{◌≡◌, leb, length, is_some, unwrap_or};
 ghost use Rattle.lent_bytes.specs.Buffer.{length_written, written};
 ghost use Rattle.lent_text.specs.Printed.{Printed};
 ghost use Rattle.export_tables.specs.Tables.{bytes_of_tables, table_bytes};
@@ -16,6 +16,7 @@ use rate_tables::AdjustedProbabilityTables;
 // bytes, low byte first; and how many bytes that are. A buffer of less than 3,016 bytes is left as it is.
 pub fn tables(pre: PhredScore, post: PhredScore, out: &mut [u8]) -> Option<usize>
     ensures reply { unwrap_or result 0 ≡ length_written (table_bytes pre.0 post.0) out.old }
+    ensures some { is_some result ≡ leb 3016 (length out.old) }
     ensures lent { out.new ≡ written (table_bytes pre.0 post.0) out.old }
 {
     if out.len() < 3016 {

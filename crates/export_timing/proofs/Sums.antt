@@ -1,6 +1,7 @@
 -- Sums of 64 bits, and what one item or one column adds to them. Assumes nothing.
 use Rattle.std.proofs.Common.{◌≡◌, ℕ, ◌+◌, ◌*◌, ◌%◌, ◌^◌, ◌<◌, List, [], ◌∷◌, Some, Ok, Err, refl, ap, ◌∙◌, zero-add, arith}
-use Rattle.std.specs.Result.{result_ok}
+use Rattle.std.specs.Prelude.{Option, is_some}
+use Rattle.std.specs.Result.{result_ok, is_ok}
 use Rattle.refusals.specs.Result.{Result, map_ok}
 use Rattle.std.proofs.lemmas.List.Sums.{sum_by-cons}
 use Rattle.rate_tables.specs.declared.adjusted.AdjustedProbabilityTables.{AdjustedProbabilityTables}
@@ -73,6 +74,11 @@ unfolding amounts_with column_amounts called_column
 amounts_same g cs = refl
 
 -- ---- a file, by what `read` says of it
+
+-- there are places where it is accepted
+pub read_said : (q : Result File) (p : Option Places) → result_ok (map_ok places_of q) ≡ p → is_some p ≡ is_ok q
+read_said (Err r) p h = rw (← h)
+read_said (Ok f) p h = rw (← h)
 
 by_reading : (s : List ℕ) (times : ℕ) (q : Result File) → read_file s ≡ q → (p : Places) → result_ok (map_ok places_of q) ≡ Some p
     → calls_in q times ≡ times * column_amounts p.settings (columns_at s p.columns p.count) % 2 ^ 64

@@ -1,5 +1,7 @@
 // The columns of a file called many times, for timing.
-ghost use Rattle.std.specs.Prelude.{◌≡◌, unwrap_or, ◌+◌, ◌%◌, ◌^◌};
+ghost use Rattle.std.specs.Prelude.{◌≡◌, is_some, unwrap_or, ◌+◌, ◌%◌, ◌^◌};
+ghost use Rattle.std.specs.Result.{is_ok};
+ghost use Rattle.column_file.specs.Reading.{read_file};
 ghost use Rattle.column_file.specs.Places.{columns_at};
 ghost use Rattle.column_calls.specs.Callers.{called_by};
 ghost use Rattle.export_timing.specs.Columns.{amounts_with, calls_of};
@@ -22,7 +24,8 @@ fn add_round(sum: u64, columns: Columns, caller: &ColumnCaller) -> u64
 // All bases and qualities of the columns, called that number of times and added up; none for a refused file.
 #[tactic(auto, unfolding(crate::specs::Columns::calls_of))]
 pub fn calls(file: &[u8], times: u32) -> Option<u64>
-    ensures { unwrap_or result 0 ≡ calls_of file.now times }
+    ensures reply { unwrap_or result 0 ≡ calls_of file.now times }
+    ensures some { is_some result ≡ is_ok (read_file file.now) }
 {
     let places = column_file::read(file).ok()?;
     let columns = Columns {

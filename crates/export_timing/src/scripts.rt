@@ -1,7 +1,7 @@
 // A script that is run many times, for timing: the tables are built once and borrowed, and no report is
 // written.
-ghost use Rattle.std.specs.Prelude.{◌≡◌, unwrap_or, ◌+◌, ◌%◌, ◌^◌};
-ghost use Rattle.export_scripts.specs.Script.{items};
+ghost use Rattle.std.specs.Prelude.{◌≡◌, ◌&&◌, nat_le, is_some, unwrap_or, ◌+◌, ◌%◌, ◌^◌};
+ghost use Rattle.export_scripts.specs.Script.{items, is_script};
 ghost use Rattle.export_scripts.specs.declared.item.Item.TheVariants.{Question};
 ghost use Rattle.export_timing.specs.Times.{amount_at, amounts, times_of};
 
@@ -53,7 +53,8 @@ fn add_run(
 // kept: C's interface: the rule is a byte, as one that is neither 0 nor 1 is refused
 #[tactic(auto, unfolding(crate::specs::Times::times_of))]
 pub fn times(pre: PhredScore, post: PhredScore, rule: u8, script: &[u8], times: u32) -> Option<u64>
-    ensures { unwrap_or result 0 ≡ times_of pre.0 post.0 rule script.now times }
+    ensures reply { unwrap_or result 0 ≡ times_of pre.0 post.0 rule script.now times }
+    ensures some { is_some result ≡ (nat_le rule 1 && is_script 4 script.now) }
 {
     if 1 < rule || !is_script(4, script) {
         return None;

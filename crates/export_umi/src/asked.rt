@@ -37,8 +37,9 @@ pub struct Asked {
     pub caller: SimpleConsensusCaller,
 }
 
-// The string goes into the buffer.
+// The string goes into the buffer. Inlined, as each layer would copy the caller in its answer.
 // kept: no plainer: the three functions answer with three types, so a closure would do the same by case
+#[inline(always)]
 pub fn ask(
     question: Question,
     caller: SimpleConsensusCaller,

@@ -1,9 +1,9 @@
 // Replies in one number, and the functions at the defaults.
-ghost use Rattle.std.specs.Prelude.{◌≡◌, false, unwrap_or};
+ghost use Rattle.std.specs.Prelude.{◌≡◌, ◌||◌, false, eqb, is_some, unwrap_or};
 ghost use Rattle.refusals.specs.Result.{map_ok};
 ghost use Rattle.umi_groups.specs.Found.{buffer_after};
 ghost use Rattle.simple_consensus.specs.Answers.{consensus_umis_in};
-ghost use Rattle.export_umi.specs.Asked.{given_of};
+ghost use Rattle.export_umi.specs.Asked.{question_of, given_of};
 ghost use Rattle.export_umi.specs.Codes.{given_code, code_of};
 ghost use Rattle.export_umi.specs.Numbered.{umi_reply, umi_buffer};
 
@@ -58,6 +58,7 @@ fn umis_given(set: &[u8], out: &mut [u8]) -> Result<Given, Refusal>
 #[tactic(auto, unfolding(crate::specs::Numbered::umi_reply, crate::specs::Numbered::umi_buffer))]
 pub fn umi(which: u8, set: &[u8], out: &mut [u8]) -> Option<u64>
     ensures reply { unwrap_or result 0 ≡ umi_reply which set.now out.old }
+    ensures some { is_some result ≡ (eqb which 2 || is_some (question_of which)) }
     ensures lent { out.new ≡ umi_buffer which set.now out.old }
 {
     if which == 2 {

@@ -1,7 +1,8 @@
 // The functions of a new caller, with its builder afterwards behind the string.
 // kept: no plainer: what is read and the buffer that is written are two borrows, which a struct would only join
-ghost use Rattle.std.specs.Prelude.{◌≡◌, unwrap_or};
+ghost use Rattle.std.specs.Prelude.{◌≡◌, is_some, unwrap_or};
 ghost use Rattle.simple_consensus.specs.Consensus.{caller_at};
+ghost use Rattle.export_umi.specs.Asked.{question_of};
 ghost use Rattle.export_umi.specs.Sent.{asked_reply, asked_buffer, caller_reply, caller_buffer};
 
 use crate::asked::{Question, ask};
@@ -44,6 +45,7 @@ pub fn umi_caller(
     out: &mut [u8],
 ) -> Option<u64>
     ensures reply { unwrap_or result 0 ≡ caller_reply which (caller_at pre.0 post.0 quality.0) set.now out.old }
+    ensures some { is_some result ≡ is_some (question_of which) }
     ensures lent { out.new ≡ caller_buffer which (caller_at pre.0 post.0 quality.0) set.now out.old }
 {
     let question = Question::of(which)?;

@@ -5,7 +5,7 @@ use Prim.Native.Nat.{ℕ, zero, suc, ◌+◌, ◌-◌, ◌≤◌, ◌<◌}
 use native.Mathlib.Omega.{arith}
 use borrow.Author.Tests.{le-leb, lt-leb}
 use lib.ListN.{length, take, drop}
-use Rattle.std.proofs.Common.{Option, Some, None, Bor, MatchOption, IsNone, OnSome}
+use Rattle.std.proofs.Common.{true, false, Option, Some, None, Bor, MatchOption, IsNone, OnSome}
 use Rattle.std.specs.List.{IsSplitAt}
 use Rattle.lent_bytes.specs.Bytes.{number_at}
 use Rattle.string_set.specs.Readers.{Taken, taken, short, next, front}
@@ -13,7 +13,17 @@ use Rattle.string_set.proofs.Readers.{prepend}
 use Rattle.simple_consensus.specs.declared.caller.SimpleConsensusCaller.{SimpleConsensusCaller}
 use Rattle.export_umi.specs.declared.asked.Question.{Question}
 use Rattle.export_umi_sets.specs.Reading.{set_size, sized_set, sets_within}
-use Rattle.export_umi_sets.specs.Answers.{after_set, set_bytes, sets_bytes, answers_to}
+use Rattle.export_umi_sets.specs.Answers.{after_set, set_bytes, sets_bytes, answers_to, is_answered}
+
+-- ---- whether there is an answer
+
+pub short_unanswered : (t : Taken (List (List ℕ))) (said out : List ℕ) → length out < length said → is_answered t said out ≡ false
+short_unanswered short said out h = refl
+short_unanswered (taken l r) said out h = lt-leb (length said) (length out) h
+
+pub well_answered : (t : Taken (List (List ℕ))) (said out : List ℕ) → (t ≡ short → ⊥) → length said ≤ length out → is_answered t said out ≡ true
+well_answered short said out n h = absurd (n refl)
+well_answered (taken l r) said out n h = le-leb (length said) (length out) h
 
 -- ---- a set at the front
 

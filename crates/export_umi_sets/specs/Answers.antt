@@ -1,5 +1,5 @@
 -- What sets in turn are answered by one caller.
-use Rattle.std.specs.Prelude.{ℕ, List, [], ◌∷◌, ◌++◌}
+use Rattle.std.specs.Prelude.{ℕ, Bool, false, List, [], ◌∷◌, ◌++◌, length, leb}
 use Rattle.std.specs.Option.{option_map_or}
 use Rattle.string_set.specs.Readers.{Taken, taken, short}
 use Rattle.lent_bytes.specs.Bytes.{number_bytes}
@@ -29,6 +29,11 @@ sets_bytes q c (set ∷ l) = set_bytes q c set ++ sets_bytes q (after_set q c se
 abbrev pub answers_to : Question → SimpleConsensusCaller → Taken (List (List ℕ)) → List ℕ
 answers_to q c short = []
 answers_to q c (taken l r) = sets_bytes q c l
+
+-- whether there is an answer: no length reaches past the end, and the buffer holds it
+abbrev pub is_answered : Taken (List (List ℕ)) → List ℕ → List ℕ → Bool
+is_answered short said out = false
+is_answered (taken l r) said out = leb (length said) (length out)
 
 -- by a new caller of two rates and a quality: 0 call_consensus, 1 consensus, 3 consensus_duplex; nothing for another number
 unfoldable pub umi_sets_bytes : ℕ → ℕ → ℕ → ℕ → List ℕ → List ℕ

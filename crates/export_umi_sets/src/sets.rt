@@ -1,11 +1,12 @@
 // What the sets are answered, into a borrowed buffer.
 // kept: no plainer: what is read and the buffer that is written are two borrows, which a struct would only join
-ghost use Rattle.std.specs.Prelude.{◌≡◌, ◌↔◌, ◌<◌, length, MatchOption, IfSome, IsNone, OnSome, unwrap_or};
+ghost use Rattle.std.specs.Prelude.{◌≡◌, ◌↔◌, ◌<◌, ◌&&◌, length, is_some, MatchOption, IfSome, IsNone, OnSome, unwrap_or};
 ghost use Rattle.lent_bytes.specs.Buffer.{length_written, written};
 ghost use Rattle.lent_text.specs.Printed.{Printed};
 ghost use Rattle.string_set.specs.Readers.{taken, short};
+ghost use Rattle.export_umi.specs.Asked.{question_of};
 ghost use Rattle.export_umi_sets.specs.Reading.{sized_set, sets_in};
-ghost use Rattle.export_umi_sets.specs.Answers.{after_set, set_bytes, answers_to, umi_sets_bytes};
+ghost use Rattle.export_umi_sets.specs.Answers.{after_set, set_bytes, answers_to, is_answered, umi_sets_bytes};
 
 use export_reports::builder_bytes;
 use export_umi::{Question, ask};
@@ -85,6 +86,7 @@ fn answer_sets(
     out: &mut [u8],
 ) -> Option<usize>
     ensures reply { unwrap_or result 0 ≡ length_written (answers_to question caller (sets_in sets.now)) out.old }
+    ensures some { is_some result ≡ is_answered (sets_in sets.now) (answers_to question caller (sets_in sets.now)) out.old }
     ensures lent { out.new ≡ written (answers_to question caller (sets_in sets.now)) out.old }
 {
     let mut counter = Printer {
@@ -114,6 +116,7 @@ pub fn umi_sets(
     out: &mut [u8],
 ) -> Option<usize>
     ensures reply { unwrap_or result 0 ≡ length_written (umi_sets_bytes pre.0 post.0 quality.0 which sets.now) out.old }
+    ensures some { is_some result ≡ (is_some (question_of which) && is_answered (sets_in sets.now) (umi_sets_bytes pre.0 post.0 quality.0 which sets.now) out.old) }
     ensures lent { out.new ≡ written (umi_sets_bytes pre.0 post.0 quality.0 which sets.now) out.old }
 {
     let question = Question::of(which)?;

@@ -9,11 +9,9 @@ use mathlib.Core.Bool.{Bool, true, false}
 use lib.Dec.{leb}
 use Rattle.std.specs.Prelude.{Option, Some, None, if◌then◌else◌}
 use Rattle.std.specs.Bool.{then_some}
-use lib.ListN.{length, take, drop, set, length-append}
+use Rattle.std.proofs.lemmas.List.{take_more, length-take-le}
+use lib.ListN.{length, take, drop, set, get_or, length-append}
 use lib.Seq.{sets, sets-eq, length-sets, take-append_seam}
-use borrow.Rule.Slice.PartMut.{put_mid}
-use Rattle.std.proofs.lemmas.Slice.{put_mid-paste}
-use Rattle.std.proofs.lemmas.List.Edits.{paste_all}
 use Rattle.lent_bytes.specs.Buffer.{length_written, written_length, written, written_at}
 
 -- bytes after bytes
@@ -22,6 +20,14 @@ sets_append l i [] b = rw (add-zero i)
 sets_append l i (x ∷ a) b =
     let e : i + suc (length a) ≡ suc i + length a = omega arith in
     ap (λ (k : ℕ). sets (sets (set l i x) (suc i) a) k b) e ∙ sets_append (set l i x) (suc i) a b
+
+-- the bytes before one of them, and then it
+pub sets_take : (l : List ℕ) (at i : ℕ) (bs : List ℕ) → i < length bs → set (sets l at (take i bs)) (at + i) (get_or bs i 0) ≡ sets l at (take (i + 1) bs)
+sets_take l at i bs h =
+    let x = get_or bs i 0 in
+    ap (λ (k : ℕ). set (sets l at (take i bs)) (at + k) x) (sym (length-take-le i bs (omega arith)))
+    ∙ sets_append l at (take i bs) (x ∷ [])
+    ∙ ap (λ (t : List ℕ). sets l at t) (sym (take_more bs i 0 h))
 
 -- bytes from a place on
 module _ (at : ℕ) (bs out : List ℕ) where
@@ -32,13 +38,6 @@ module _ (at : ℕ) (bs out : List ℕ) where
   pub short_written_at : length out < at + length bs → out ≡ written_at at bs out
   unfolding written_at
   short_written_at h = rw (lt-leb (at + length bs) (length out) h)
-
--- put over the part of a buffer from a place on
-pub put_over : (at k : ℕ) (bs ys out : List ℕ) → ys ≡ bs → k ≡ length bs → at + length bs ≤ length out → put_mid at k out ys ≡ written_at at bs out
-unfolding written_at
-put_over at k bs ys out e l h =
-    rw (le-leb (at + length bs) (length out) h)
-    (put_mid-paste at k out ys bs (length bs) e (sym l) refl ∙ paste_all out at bs (length bs) refl ∙ sym (append_assoc (take at out) bs _))
 
 module _ (bs out : List ℕ) where
   -- at the front

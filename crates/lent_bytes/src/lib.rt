@@ -1,7 +1,8 @@
 // Bytes and numbers read from bytes, and bytes put into a borrowed buffer.
 #![tactic(auto)]
 
-ghost use Rattle.std.specs.Prelude.{◌≡◌, ◌++◌, ◌+◌, leb, length};
+ghost use Rattle.std.specs.Prelude.{◌≡◌, ◌++◌, ◌+◌, ◌≤◌, leb, length};
+ghost use Rattle.std.proofs.lemmas.List.Edits.{sets};
 ghost use Rattle.words.specs.Lists.{byte_at, listed};
 ghost use Rattle.lent_bytes.specs.Buffer.{written, written_at};
 ghost use Rattle.lent_bytes.specs.Bytes.{number_at};
@@ -29,9 +30,19 @@ pub fn four_at(bytes: &[u8], at: usize) -> u32
     u32::from_le_bytes(bytes_at(bytes, at))
 }
 
+// All bytes from a place on, where they fit: by a loop, as `copy_from_slice` asks a C program for `memmove`.
+fn copy_at(out: &mut [u8], at: usize, bytes: &[u8])
+    requires { at + length bytes.now ≤ length out.old }
+    ensures { out.new ≡ sets out.old at bytes.now }
+{
+    for (i, byte) in bytes.iter().enumerate() {
+        out[at + i] = *byte;
+    }
+}
+
 // Whether the bytes fit from a place on, and so were put there. A buffer that is too short is left as it
 // is.
-#[tactic(auto, using(crate::proofs::Buffer::put_over), unfolding(crate::specs::Buffer::written_at))]
+#[tactic(auto, using(crate::proofs::Buffer::fits_written_at), unfolding(crate::specs::Buffer::written_at))]
 pub fn write_at(out: &mut [u8], at: usize, bytes: &[u8]) -> bool
     ensures reply { result ≡ leb (at + length bytes.now) (length out.old) }
     ensures lent { out.new ≡ written_at at bytes.now out.old }
@@ -42,7 +53,7 @@ pub fn write_at(out: &mut [u8], at: usize, bytes: &[u8]) -> bool
     if out.len() < end {
         return false;
     }
-    out[at..end].copy_from_slice(bytes);
+    copy_at(out, at, bytes);
     true
 }
 

@@ -1,3 +1,4 @@
+pub mod Put
 pub mod Printed
 pub mod Decimal
 pub mod Fours

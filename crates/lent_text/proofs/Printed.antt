@@ -12,37 +12,16 @@ use Rattle.words.proofs.Cases.{test}
 use Rattle.lent_bytes.specs.Buffer.{written}
 use Rattle.lent_bytes.proofs.Buffer.{sets_append, fits_written, written_front}
 use Rattle.lent_text.specs.declared.Printer.{Printer}
-use Rattle.lent_text.specs.Printed.{Printed, last_place}
-
--- past the end nothing is set
-pub sets_out : (l : List ℕ) (i : ℕ) (t : List ℕ) → length l ≤ i → sets l i t ≡ l
-sets_out l i [] h = refl
-sets_out l i (x ∷ t) h = rw (set_out l i x h) (sets_out l (suc i) t (omega arith))
-
--- a count that stops at the last place sets the same as one that goes on
-pub sets_capped : (l : List ℕ) (i : ℕ) (t : List ℕ) → length l ≤ last_place → sets l (min i last_place) t ≡ sets l i t
-sets_capped l i t h =
-    test
-    (leb i last_place)
-    (λ e. rw (min-eq_left (leb-true i last_place e)))
-    (λ e. let f = leb-false i last_place e in sets_out l (min i last_place) t (omega arith) ∙ sym (sets_out l i t (omega arith)))
+use Rattle.lent_text.specs.Printed.{Put, Printed, last_place}
+use Rattle.lent_text.proofs.Put.{put_then}
 
 -- one text, and then another
 pub print_then : {p q r : Printer} {t u : List ℕ} → Printed p q t → Printed q r u → Printed p r (t ++ u)
 print_then {p} {q} {r} {t} {u} f g =
-    let o = p.out.now in
-    let n = length-sets o p.at t in
-    record {
-      buffer = f.buffer ∙ g.buffer;
-      room = f.room;
-      place = rw (length-append t u) (omega arith);
-      bytes =
-          g.bytes
-          ∙ ap (λ (l : List ℕ). sets l q.at u) f.bytes
-          ∙ ap (λ (k : ℕ). sets (sets o p.at t) k u) f.place
-          ∙ sets_capped (sets o p.at t) (p.at + length t) u (omega arith)
-          ∙ sets_append o p.at t u;
-    }
+    let first : Put p.out.now p.at t q.out.now q.at = record { room = f.room; place = f.place; bytes = f.bytes } in
+    let second : Put q.out.now q.at u r.out.now r.at = record { room = g.room; place = g.place; bytes = g.bytes } in
+    let both = put_then first second in
+    record { buffer = f.buffer ∙ g.buffer; room = both.room; place = both.place; bytes = both.bytes }
 
 -- nothing printed
 pub print_none : (p : Printer) → length p.out.now ≤ last_place → p.at ≤ last_place → Printed p p []

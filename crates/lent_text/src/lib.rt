@@ -5,6 +5,38 @@
 ghost use Rattle.std.specs.Prelude.{[], ◌∷◌};
 ghost use Rattle.lent_bytes.specs.Bytes.{four_bytes};
 ghost use Rattle.lent_text.specs.Text.{decimal};
+ghost use Rattle.lent_text.specs.Printed.{Put};
+
+// Each method of a printer goes through a function of the buffer and the place, which stay in registers there:
+// a buffer behind a printer is looked up again at each byte.
+fn put_byte(out: &mut [u8], at: usize, byte: u8) -> usize
+    ensures { Put out.old at (byte ∷ []) out.new result }
+{
+    if at < out.len() {
+        out[at] = byte;
+    }
+    at.saturating_add(1)
+}
+
+fn put_bytes(out: &mut [u8], at: usize, bytes: &[u8]) -> usize
+    ensures { Put out.old at bytes.now out.new result }
+{
+    let mut place = at;
+    for byte in bytes {
+        place = put_byte(out, place, *byte);
+    }
+    place
+}
+
+fn put_decimal(out: &mut [u8], at: usize, n: u64) -> usize
+    ensures { Put out.old at (decimal n) out.new result }
+{
+    if n < 10 {
+        return put_byte(out, at, b'0' + n as u8);
+    }
+    let place = put_decimal(out, at, n / 10);
+    put_byte(out, place, b'0' + (n % 10) as u8)
+}
 
 // A borrowed buffer, and the place that is printed to next.
 #[derive(Drop)]
@@ -19,29 +51,20 @@ impl<'a> Printer<'a> {
     pub fn byte(&mut self, byte: u8)
         ensures { Printed self.old self.new (byte ∷ []) }
     {
-        if self.at < self.out.len() {
-            self.out[self.at] = byte;
-        }
-        self.at = self.at.saturating_add(1);
+        self.at = put_byte(self.out, self.at, byte);
     }
 
     pub fn bytes(&mut self, bytes: &[u8])
         ensures { Printed self.old self.new bytes.now }
     {
-        for byte in bytes {
-            self.byte(*byte);
-        }
+        self.at = put_bytes(self.out, self.at, bytes);
     }
 
     // A number in decimal.
     pub fn decimal(&mut self, n: u64)
         ensures { Printed self.old self.new (decimal n) }
     {
-        let front = n / 10;
-        if front > 0 {
-            self.decimal(front);
-        }
-        self.byte(b'0' + (n % 10) as u8);
+        self.at = put_decimal(self.out, self.at, n);
     }
 
     // A number in four bytes, the low byte first. `four_at` (lent_bytes) reads it.

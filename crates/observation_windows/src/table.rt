@@ -25,6 +25,7 @@ pub struct Windows {
 }
 
 impl Windows {
+    #[inline(always)]
     pub fn of(tables: &AdjustedProbabilityTables) -> Self
         ensures { result.rows ≡ windows_of tables.now }
     {

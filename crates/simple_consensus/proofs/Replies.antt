@@ -1,6 +1,7 @@
 -- What the functions reply of what was found, and of a set's bytes. Assumes nothing.
 use Rattle.std.specs.Prelude.{Err, Ok, IfOk}
-use Rattle.std.proofs.Common.{◌≡◌, ℕ, List, length, ◌≤◌, ◌<◌, ◌∙◌, ap}
+use Rattle.std.specs.Result.{result_unwrap_or}
+use Rattle.std.proofs.Common.{◌≡◌, ℕ, List, length, ◌≤◌, ◌<◌, ◌∙◌, ap, refl}
 use Rattle.refusals.specs.declared.Refusal.{Refusal}
 use Rattle.refusals.specs.declared.Refusal.TheVariants.{NoStrings}
 use Rattle.refusals.specs.Refusals.{number_in}
@@ -9,8 +10,8 @@ use Rattle.refusals.proofs.Numbers.{number_in-map_ok}
 use Rattle.string_set.specs.StringSet.{read_set}
 use Rattle.umi_groups.specs.Found.{Found, room_for, found_length}
 use Rattle.simple_consensus.specs.declared.caller.SimpleConsensusCaller.{SimpleConsensusCaller}
-use Rattle.simple_consensus.specs.Consensus.{default_caller, umis_of}
-use Rattle.simple_consensus.specs.Answers.{call_consensus_in, consensus_umis_in}
+use Rattle.simple_consensus.specs.Consensus.{with_builder, default_caller, umis_of}
+use Rattle.simple_consensus.specs.Answers.{call_consensus_in, consensus_umis_in, caller_after}
 use Rattle.simple_consensus.proofs.Groups.{call_none, call_some}
 
 -- what a function replies of a string that was found, whose length `size` reads: the reply, which is short, and its number
@@ -18,6 +19,12 @@ pub record Replied {B : Type 0} (f : Found → B) (size : B → ℕ) (t : Result
   pub answer : r ≡ map_ok f t
   pub short : IfOk r (λ b. size b ≤ 255)
   pub number : number_in r ≡ number_in t
+
+-- the caller that is then had, where a function replies by f: his own where it refuses
+pub kept_caller : {B : Type 0} (f : Found → B) (caller : B → SimpleConsensusCaller) (c : SimpleConsensusCaller) → ((x : Found) → caller (f x) ≡ with_builder x.builder c)
+    → (t : Result Found) (r : Result B) → r ≡ map_ok f t → result_unwrap_or (map_ok caller r) c ≡ caller_after c t
+kept_caller f caller c same (Err x) r e = rw e refl
+kept_caller f caller c same (Ok x) r e = rw e (same x)
 
 short_by : {B : Type 0} (f : Found → B) (size : B → ℕ) → ((x : Found) → size (f x) ≡ length x.text) → (t : Result Found) → found_length t ≤ 255
     → IfOk (map_ok f t) (λ b. size b ≤ 255)

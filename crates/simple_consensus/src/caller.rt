@@ -1,12 +1,13 @@
 // The caller of a set whose strings have one length.
 // kept: no plainer: what is read and the buffer that is written are two borrows, which a struct would only join
 ghost use Rattle.std.specs.Prelude.{◌≡◌, ◌≤◌, IfOk};
+ghost use Rattle.std.specs.Result.{result_unwrap_or};
 ghost use Rattle.refusals.specs.Refusals.{number_in};
 ghost use Rattle.refusals.specs.Result.{map_ok};
 ghost use Rattle.umi_column.specs.Dna.{is_dna_base};
 ghost use Rattle.umi_groups.specs.Found.{found_length, buffer_after};
 ghost use Rattle.simple_consensus.specs.Consensus.{caller_at, default_caller};
-ghost use Rattle.simple_consensus.specs.Answers.{call_consensus_in, consensus_umis_in, consensus_of_found, length_of_found, group_consensus_of};
+ghost use Rattle.simple_consensus.specs.Answers.{call_consensus_in, consensus_umis_in, consensus_of_found, length_of_found, group_consensus_of, caller_after};
 
 use crate::group::{GroupConsensus, alike_consensus};
 use base_builder::ConsensusBaseBuilder;
@@ -70,9 +71,12 @@ impl SimpleConsensusCaller {
         umi_column::is_dna_base(b)
     }
 
-    // The consensus of a set, into the buffer. A refusal leaves it.
+    // The consensus of a set, into the buffer. A refusal leaves it. Inlined, as each layer would copy the
+    // caller in its answer.
+    #[inline(always)]
     pub fn call_consensus(self, set: &[u8], out: &mut [u8]) -> Result<Consensus, Refusal>
         ensures answer { result ≡ map_ok (consensus_of_found self) (call_consensus_in self set.now out.old) }
+        ensures caller { result_unwrap_or (map_ok (λ (given : Consensus). given.caller) result) self ≡ caller_after self (call_consensus_in self set.now out.old) }
         ensures lent { out.new ≡ buffer_after out.old (call_consensus_in self set.now out.old) }
         ensures short { IfOk result (λ given. given.length ≤ 255) }
         ensures number { number_in result ≡ number_in (call_consensus_in self set.now out.old) }
@@ -86,6 +90,7 @@ impl SimpleConsensusCaller {
 }
 
 // The same with the flag.
+#[inline(always)]
 fn call_set(
     caller: SimpleConsensusCaller,
     set: &[u8],

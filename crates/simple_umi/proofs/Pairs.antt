@@ -7,16 +7,17 @@ use Rattle.words.proofs.Cases.{test}
 use Rattle.words.specs.Lists.{is_empty}
 use Rattle.lent_bytes.specs.Buffer.{written}
 use Rattle.refusals.specs.declared.Refusal.{Refusal}
-use Rattle.refusals.specs.Result.{Result, and_then}
+use Rattle.std.specs.Result.{result_unwrap_or}
+use Rattle.refusals.specs.Result.{Result, and_then, map_ok}
 use Rattle.string_set.specs.StringSet.{read_set}
 use Rattle.umi_groups.specs.Found.{Found, found_length, buffer_after}
 use Rattle.simple_consensus.specs.declared.caller.SimpleConsensusCaller.{SimpleConsensusCaller}
 use Rattle.simple_consensus.specs.declared.group.GroupConsensus.{GroupConsensus}
 use Rattle.simple_consensus.specs.Consensus.{with_builder, consensus_of}
-use Rattle.simple_consensus.specs.Answers.{group_consensus_of}
+use Rattle.simple_consensus.specs.Answers.{group_consensus_of, caller_after}
 use Rattle.simple_umi.specs.declared.umi_caller.DuplexConsensus.{DuplexConsensus}
 use Rattle.simple_umi.specs.Duplex.{FoundDuplex, strand_of, pairing, either, paired, duplex_of}
-use Rattle.simple_umi.specs.Answers.{room_for_both, duplex_in, duplex_consensus_of}
+use Rattle.simple_umi.specs.Answers.{room_for_both, duplex_in, duplex_consensus_of, pair_found}
 
 -- the front of a buffer that a text was written into
 pub front_written : (t x : List ℕ) → length t ≤ length x → take (length t) (written t x) ≡ t
@@ -33,6 +34,12 @@ strand_text t f g c e h few x y size lent =
     (ap (take g.length) there ∙ rw (← long) (front_written f.text x (omega arith)), omega arith, short)
 
 -- ---- both strands
+
+-- the caller that is then had: his own where they are refused
+pub kept_pair : (c : SimpleConsensusCaller) (t : Result FoundDuplex) (r : Result DuplexConsensus) → r ≡ map_ok (duplex_consensus_of c) t
+    → result_unwrap_or (map_ok (λ (given : DuplexConsensus). given.caller.caller) r) c ≡ caller_after c (pair_found t)
+kept_pair c (Err x) r e = rw e refl
+kept_pair c (Ok d) r e = rw e refl
 
 then_accepted : (u : Result Found) (f : Found → FoundDuplex) (g : FoundDuplex → Result FoundDuplex) → and_then (and_then u (λ b. Ok (f b))) g ≡ and_then u (λ b. g (f b))
 then_accepted (Err r) f g = refl

@@ -2,12 +2,13 @@
 // string.
 // kept: no plainer: what is read and the buffer that is written are two borrows, which a struct would only join
 ghost use Rattle.std.specs.Prelude.{◌≡◌, ◌≤◌, length, IfOk};
+ghost use Rattle.std.specs.Result.{result_unwrap_or};
 ghost use Rattle.refusals.specs.Refusals.{number_in};
 ghost use Rattle.refusals.specs.Result.{and_then, map_ok};
 ghost use Rattle.string_set.specs.StringSet.{read_set};
 ghost use Rattle.umi_groups.specs.Found.{found_length, buffer_after};
 ghost use Rattle.simple_consensus.specs.Consensus.{default_caller, consensus_of};
-ghost use Rattle.simple_consensus.specs.Answers.{group_consensus_of};
+ghost use Rattle.simple_consensus.specs.Answers.{group_consensus_of, caller_after};
 ghost use Rattle.simple_umi.specs.Answers.{consensus_in, duplex_in, flagged_consensus_of, duplex_consensus_of, pair_found};
 
 use crate::duplex::both_strands;
@@ -55,9 +56,11 @@ impl SimpleUmiConsensusCaller {
     }
 
     // The consensus of a set, into the buffer, and whether a string differs from it. A buffer of 255 bytes
-    // is never too short. A refusal leaves it.
+    // is never too short. A refusal leaves it. Inlined, as each layer would copy the caller in its answer.
+    #[inline(always)]
     pub fn consensus(self, set: &[u8], out: &mut [u8]) -> Result<FlaggedConsensus, Refusal>
         ensures answer { result ≡ map_ok (flagged_consensus_of self.caller) (consensus_in self.caller set.now out.old) }
+        ensures caller { result_unwrap_or (map_ok (λ (given : FlaggedConsensus). given.caller.caller) result) self.caller ≡ caller_after self.caller (consensus_in self.caller set.now out.old) }
         ensures lent { out.new ≡ buffer_after out.old (consensus_in self.caller set.now out.old) }
         ensures short { IfOk result (λ given. given.length ≤ 255) }
         ensures number { number_in result ≡ number_in (consensus_in self.caller set.now out.old) }
@@ -77,6 +80,7 @@ impl SimpleUmiConsensusCaller {
     // or /B's where that is empty.
     pub fn consensus_duplex(self, set: &[u8], out: &mut [u8]) -> Result<DuplexConsensus, Refusal>
         ensures answer { result ≡ map_ok (duplex_consensus_of self.caller) (duplex_in self.caller set.now out.old) }
+        ensures caller { result_unwrap_or (map_ok (λ (given : DuplexConsensus). given.caller.caller) result) self.caller ≡ caller_after self.caller (pair_found (duplex_in self.caller set.now out.old)) }
         ensures lent { out.new ≡ buffer_after out.old (pair_found (duplex_in self.caller set.now out.old)) }
         ensures short { IfOk result (λ given. given.length ≤ 255) }
         ensures number { number_in result ≡ number_in (duplex_in self.caller set.now out.old) }
@@ -89,6 +93,7 @@ impl SimpleUmiConsensusCaller {
 }
 
 // All strings of a set.
+#[inline(always)]
 fn set_consensus(
     caller: SimpleConsensusCaller,
     set: &[u8],

@@ -5,7 +5,6 @@ ghost use Rattle.words.specs.Lists.{byte_at};
 ghost use Rattle.umi_rows.specs.Rows.{RowsFit, fitting, gathered_at, rows_at};
 
 use crate::rows::Rows;
-use lent_bytes::byte_at;
 
 // 1 to 255 strings of one width, each within the set.
 // kept: no plainer: nothing compares or prints it
@@ -60,9 +59,10 @@ impl<'a> Family<'a> {
 fn byte_after(set: &[u8], place: usize, at: usize) -> u8
     ensures { result ≡ byte_at set.now (place + 1 + at) }
 {
-    match set.get(place..) {
-        Some([_, string @ ..]) => byte_at(string, at),
-        _ => 0,
+    if place < set.len() && at < set.len() - place - 1 {
+        set[place + 1 + at]
+    } else {
+        0
     }
 }
 

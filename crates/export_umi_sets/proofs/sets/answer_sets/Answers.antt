@@ -1,21 +1,23 @@
 -- `answer_sets`: cut off, too long for the buffer, or all written. Assumes nothing.
-use Rattle.std.proofs.Common.{◌^◌, ◌≤◌, ◌<◌, length, refl, arith, rules}
+use Rattle.std.proofs.Common.{◌^◌, ◌≤◌, ◌<◌, length, refl, sym, arith, rules}
 use Rattle.lent_text.proofs.Printed.{printed_written}
 use Rattle.export_reports.proofs.Written.{nothing_said, too_short, all_said}
 use Rattle.export_umi_sets.specs.Reading.{sets_in}
 use Rattle.export_umi_sets.specs.Answers.{answers_to}
-use Rattle.export_umi_sets.proofs.Walk.{walked_again}
+use Rattle.export_umi_sets.proofs.Walk.{short_unanswered, well_answered, walked_again}
 use Rattle.export_umi_sets.proofs.sets.answer_sets.Goals as goal
 
 pub returns-in_err-put_sets : goal.returns-in_err-put_sets
 returns-in_err-put_sets c =
     let none = nothing_said (answers_to c.args.question c.args.caller (sets_in c.args.sets.now)) c.args.out.now (rw (c.in_err-put_sets.ensures.cut.0 refl)) in
-    record { reply = rw c.from_residual.ensures none.0; lent = none.1 }
+    record { reply = rw c.from_residual.ensures none.0; some = rw (c.from_residual.ensures, c.in_err-put_sets.ensures.cut.0 refl); lent = none.1 }
 
 pub returns-then-out-n : goal.returns-then-out-n
 returns-then-out-n c =
-    let none = too_short (answers_to c.args.question c.args.caller (sets_in c.args.sets.now)) c.args.out.now (omega (arith, c.in_ok-put_sets.ensures.put.place, c.if-out-n.true)) in
-    record { reply = none.0; lent = none.1 }
+    let said = answers_to c.args.question c.args.caller (sets_in c.args.sets.now) in
+    let short : length c.args.out.now < length said = omega (arith, c.in_ok-put_sets.ensures.put.place, c.if-out-n.true) in
+    let none = too_short said c.args.out.now short in
+    record { reply = none.0; some = sym (short_unanswered _ said c.args.out.now short); lent = none.1 }
 
 pub returns : goal.returns
 returns c =
@@ -26,5 +28,6 @@ returns c =
     let printed = printed_written put refl fits in
     record {
       reply = omega (arith, c.in_ok-put_sets.ensures.put.place, all_said said c.args.out.now fits);
+      some = sym (well_answered _ said c.args.out.now (λ e. cc (c.in_ok-put_sets.ensures.cut.1 e)) fits);
       lent = search (rules, printed.1, put.buffer);
     }

@@ -3,7 +3,7 @@ use Rattle.std.proofs.lemmas.Result.{err_from_is_err_and}
 use Rattle.umi_groups.proofs.Mapped.{map_refused, map_made}
 use Rattle.simple_consensus.specs.declared.group.GroupConsensus.{GroupConsensus}
 use Rattle.simple_consensus.specs.Answers.{group_consensus_of}
-use Rattle.simple_consensus.proofs.Replies.{replied}
+use Rattle.simple_consensus.proofs.Replies.{replied, kept_caller}
 use Rattle.simple_umi.specs.declared.umi_caller.FlaggedConsensus.{FlaggedConsensus}
 use Rattle.simple_umi.specs.Answers.{consensus_in, flagged_consensus_of}
 use Rattle.simple_umi.proofs.Replies.{consensus_fits, consensus_few}
@@ -17,7 +17,7 @@ returns-in_err-given c =
     let refused = map_refused (group_consensus_of caller) t _ (rw c.in_err-given.was at (sym told.group)) in
     let reply = err_from_is_err_and c.from_residual.result c.from_residual.ensures.1 in
     let said = replied (flagged_consensus_of caller) (λ (given : FlaggedConsensus). given.length) (λ x. refl) t (consensus_few c.args.set.now c.args.out.now caller told.few) _ (rw (reply.1, reply.2, refused) refl) in
-    record { answer = said.answer; lent = told.lent; short = said.short; number = said.number; fits = λ h. consensus_fits c.args.set.now c.args.out.now caller (omega (arith, told.few)) }
+    record { answer = said.answer; caller = kept_caller (flagged_consensus_of caller) (λ (given : FlaggedConsensus). given.caller.caller) caller (λ x. refl) t _ said.answer; lent = told.lent; short = said.short; number = said.number; fits = λ h. consensus_fits c.args.set.now c.args.out.now caller (omega (arith, told.few)) }
 
 pub returns : goal.returns
 returns c =
@@ -27,4 +27,4 @@ returns c =
     let made : GroupConsensus → FlaggedConsensus = λ g. record { caller = record { caller = g.caller }; length = g.length; had_errors = g.had_errors } in
     let said = replied (flagged_consensus_of caller) (λ (given : FlaggedConsensus). given.length) (λ x. refl) t (consensus_few c.args.set.now c.args.out.now caller told.few) _
     (map_made (group_consensus_of caller) (flagged_consensus_of caller) made (λ f. refl) t _ (rw c.in_ok-given.was at (sym told.group))) in
-    record { answer = said.answer; lent = told.lent; short = said.short; number = said.number; fits = λ h. consensus_fits c.args.set.now c.args.out.now caller (omega (arith, told.few)) }
+    record { answer = said.answer; caller = kept_caller (flagged_consensus_of caller) (λ (given : FlaggedConsensus). given.caller.caller) caller (λ x. refl) t _ said.answer; lent = told.lent; short = said.short; number = said.number; fits = λ h. consensus_fits c.args.set.now c.args.out.now caller (omega (arith, told.few)) }

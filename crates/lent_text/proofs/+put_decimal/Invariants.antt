@@ -1,0 +1,5 @@
+-- `put_decimal`: a number of fewer digits each time. Assumes nothing.
+use Rattle.lent_text.proofs.+put_decimal.Given as goal
+
+abbrev pub decreases-put_decimal : goal.decreases-put_decimal
+decreases-put_decimal l = l.n
