@@ -14,6 +14,8 @@ use lent_text::Printer;
 use refusal_text::print_refusal;
 use whole_text::{Text, put_whole};
 
+// Inlined, as is what prints a line for each column, so that the printer stays in registers.
+#[inline(always)]
 fn put_sum(p: &mut Printer, column: &[u8], errors: &[u64; 256])
     ensures { Printed p.old p.new (sum_line_with errors.now (observations_in column.now)) }
 {
@@ -38,6 +40,7 @@ impl Text for Sums<'_> {
         21 * self.columns.left
     }
 
+    #[inline(always)]
     fn put(&self, p: &mut Printer) {
         // Read once, so that the proof knows its range.
         let _from = p.at;

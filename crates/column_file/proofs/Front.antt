@@ -1,19 +1,22 @@
 -- A count, a column and the settings off the front of bytes. Assumes nothing.
-use Rattle.std.specs.Prelude.{Option, Some, None, Err, Ok}
+use Rattle.std.specs.Prelude.{Option, Some, None, Err, Ok, if◌then◌else◌}
 use Rattle.std.specs.Option.{MatchOption, ok_or}
 use Rattle.std.specs.Result.{result_and}
 use Rattle.std.specs.List.{IsSplitAt}
 use Rattle.std.specs.Int.{from_le_bytes, w16}
+use Rattle.std.proofs.lemmas.List.{length-take-le}
+use Rattle.std.specs.Simd.{first_chunks}
 use mathlib.Core.Path.{◌≡◌, refl, sym, ◌∙◌, ap}
+use mathlib.Core.Bool.{Bool, true, false, ◌||◌}
 use mathlib.Core.List.{List, [], ◌∷◌, ◌++◌}
-use Prim.Native.Nat.{ℕ, zero, suc, ◌+◌, ◌-◌, ◌*◌, ◌≤◌, ◌<◌}
+use Prim.Native.Nat.{ℕ, zero, suc, ◌+◌, ◌-◌, ◌*◌, ◌/◌, ◌≤◌, ◌<◌}
 use native.Mathlib.Nat.{zero-add}
 use native.Mathlib.Omega.{arith}
 use denote.Ref.{Bor}
 use borrow.Author.Tests.{leb-true, leb-false, le-leb, lt-leb, ne_eqb}
-use lib.Dec.{leb}
-use lib.ListN.{length, take, drop}
-use lib.Seq.{get_or-take}
+use lib.Dec.{leb, eqb}
+use lib.ListN.{length, take, drop, get_or, length-drop, take-append-drop}
+use lib.Seq.{get_or-take, drop-drop}
 use Rattle.words.proofs.Cases.{test}
 use Rattle.words.specs.Lists.{byte_at}
 use Rattle.refusals.specs.declared.Refusal.TheVariants.{CutOff, BadSettings, AbsentQuality}
@@ -115,14 +118,62 @@ verdict_two [] rest h = absurd (omega arith)
 verdict_two (b ∷ []) rest h = absurd (omega arith)
 verdict_two (b ∷ q ∷ x ∷ l) rest h = absurd (omega arith)
 
-module _ (pair rest : List ℕ) (size : length pair ≡ 2) where
-  pub verdict_here : byte_at pair 1 ≡ 255 → column_verdict (observations_in (pair ++ rest)) ≡ Err AbsentQuality
-  unfolding observation_verdict
-  verdict_here e = verdict_two pair rest size ∙ rw e
+or_else_assoc : (a b c : Verdict) → or_else (or_else a b) c ≡ or_else a (or_else b c)
+or_else_assoc (Ok _) b c = refl
+or_else_assoc (Err r) b c = refl
 
-  pub verdict_on : (byte_at pair 1 ≡ 255 → ⊥) → column_verdict (observations_in (pair ++ rest)) ≡ column_verdict (observations_in rest)
-  unfolding observation_verdict
-  verdict_on e = verdict_two pair rest size ∙ rw (ne_eqb (byte_at pair 1) 255 e)
+-- those of an even number of bytes, and then those of others
+verdict_append : (k : ℕ) (a b : List ℕ) → length a ≡ 2 * k
+    → column_verdict (observations_in (a ++ b)) ≡ or_else (column_verdict (observations_in a)) (column_verdict (observations_in b))
+unfolding column_verdict observations_in
+verdict_append zero [] b h = refl
+verdict_append zero (x ∷ a) b h = absurd (omega arith)
+verdict_append (suc k) [] b h = absurd (omega arith)
+verdict_append (suc k) (x ∷ []) b h = absurd (omega arith)
+verdict_append (suc k) (x ∷ y ∷ a) b h =
+    let o = observation_verdict (record { base = x; quality = y }) in
+    ap (or_else o) (verdict_append k a b (omega arith)) ∙ sym (or_else_assoc o (column_verdict (observations_in a)) (column_verdict (observations_in b)))
+
+-- so many off the front, and then the others
+pub verdict_cut : (k n : ℕ) (s : List ℕ) → n ≡ 2 * k → n ≤ length s
+    → column_verdict (observations_in s) ≡ or_else (column_verdict (observations_in (take n s))) (column_verdict (observations_in (drop n s)))
+verdict_cut k n s e h = ap (λ (l : List ℕ). column_verdict (observations_in l)) (sym (take-append-drop n s)) ∙ verdict_append k (take n s) (drop n s) (length-take-le n s h ∙ e)
+
+-- the pair at index i, where the bytes are cut into pairs
+pub pair_at : (k i : ℕ) (s d : List ℕ) → i < k → get_or (first_chunks 2 k s) i d ≡ take 2 (drop (2 * i) s)
+pair_at zero i s d h = absurd (omega arith)
+pair_at (suc k) zero s d h = refl
+pair_at (suc k) (suc i) s d h =
+    let e : 2 + 2 * i ≡ 2 * suc i = omega arith in
+    pair_at k i (drop 2 s) d (omega arith) ∙ ap (take 2) (drop-drop (2 * i) 2 s ∙ ap (λ (n : ℕ). drop n s) e)
+
+-- of bytes that are cut into pairs, pair i and then those after it
+module _ (s : List ℕ) (i : ℕ) (pairs : List (List ℕ)) (cut : pairs ≡ first_chunks 2 (length s / 2) s) (inside : i < length s / 2) where
+  pair : List ℕ
+  pair = get_or pairs i []
+
+  taken_pair : pair ≡ take 2 (drop (2 * i) s)
+  unfolding pair
+  taken_pair = rw cut (pair_at (length s / 2) i s [] inside)
+
+  next : column_verdict (observations_in (drop (2 * i) s))
+      ≡ or_else (observation_verdict (record { base = byte_at pair 0; quality = byte_at pair 1 })) (column_verdict (observations_in (drop (2 * (i + 1)) s)))
+  next =
+      let d = drop (2 * i) s in
+      let size : length pair ≡ 2 = ap length taken_pair ∙ length-take-le 2 d (omega (arith, length-drop (2 * i) s)) in
+      let e : 2 * i + 2 ≡ 2 * (i + 1) = omega arith in
+      let rest : drop 2 d ≡ drop (2 * (i + 1)) s = drop-drop 2 (2 * i) s ∙ ap (λ (n : ℕ). drop n s) e in
+      ap (λ (l : List ℕ). column_verdict (observations_in l)) (sym (take-append-drop 2 d) ∙ rw (rest, ← taken_pair)) ∙ verdict_two pair _ size
+
+  pub verdict_next : column_verdict (observations_in (drop (2 * i) s))
+      ≡ (if eqb (byte_at (get_or pairs i []) 1) 255 then Err AbsentQuality else column_verdict (observations_in (drop (2 * (i + 1)) s)))
+  unfolding pair observation_verdict
+  verdict_next = next ∙ test (eqb (byte_at (get_or pairs i []) 1) 255) (λ t. rw t) (λ t. rw t)
+
+-- one verdict by either of two tests
+pub if_either : (a b : Bool) (v w : Verdict) → (if a || b then v else w) ≡ (if a then v else (if b then v else w))
+if_either true b v w = refl
+if_either false b v w = refl
 
 -- there is none in fewer
 pub verdict_none : (s : List ℕ) → length s < 2 → column_verdict (observations_in s) ≡ Ok tt
@@ -132,10 +183,6 @@ verdict_none (b ∷ []) h = refl
 verdict_none (b ∷ q ∷ r) h = absurd (omega arith)
 
 -- ---- the verdict on a column more
-
-or_else_assoc : (a b c : Verdict) → or_else (or_else a b) c ≡ or_else a (or_else b c)
-or_else_assoc (Ok _) b c = refl
-or_else_assoc (Err r) b c = refl
 
 or_else_sound : (v : Verdict) → or_else v (Ok tt) ≡ v
 or_else_sound (Ok _) = refl

@@ -15,7 +15,8 @@ use export_reports::{builder_of, put_counts};
 use lent_text::Printer;
 use phred::PhredScore;
 
-// How often each of the 256 bytes was observed.
+// How often each of the 256 bytes was observed. Inlined, so that the printer stays in registers.
+#[inline(always)]
 fn put_bases(p: &mut Printer, builder: ConsensusBaseBuilder)
     requires { p.old.at ≤ last_place }
     ensures { Printed p.old p.new (joined four_bytes (listed (observations_for_base builder) 0 256)) }
@@ -25,6 +26,7 @@ fn put_bases(p: &mut Printer, builder: ConsensusBaseBuilder)
     }
 }
 
+#[inline(always)]
 fn put_all(p: &mut Printer, builder: ConsensusBaseBuilder)
     ensures { Printed p.old p.new (joined four_bytes (observation_counts builder)) }
 {

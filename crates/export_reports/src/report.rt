@@ -11,7 +11,9 @@ use gap_tables::UnanimousGapTables;
 use lane_calls::Call;
 use lent_text::Printer;
 
-// Numbers by their bit patterns of 8 bytes, the low byte first.
+// Numbers by their bit patterns of 8 bytes, the low byte first. Inlined, as is all that a builder's bytes are
+// put by, so that each byte's place in them is a constant.
+#[inline(always)]
 pub fn put_patterns(p: &mut Printer, numbers: &[f64])
     ensures { Printed p.old p.new (joined pattern_of numbers.now) }
 {
@@ -23,6 +25,7 @@ pub fn put_patterns(p: &mut Printer, numbers: &[f64])
 }
 
 // Counts of 4 bytes.
+#[inline(always)]
 pub fn put_counts(p: &mut Printer, counts: &[u32])
     ensures { Printed p.old p.new (joined four_bytes counts.now) }
 {
@@ -32,6 +35,7 @@ pub fn put_counts(p: &mut Printer, counts: &[u32])
     }
 }
 
+#[inline(always)]
 fn put_builder(p: &mut Printer, builder: &ConsensusBaseBuilder)
     ensures { Printed p.old p.new (builder_bytes builder.now) }
 {
@@ -41,6 +45,7 @@ fn put_builder(p: &mut Printer, builder: &ConsensusBaseBuilder)
 }
 
 // A builder in 80 bytes.
+#[inline(always)]
 pub fn builder_bytes(builder: &ConsensusBaseBuilder) -> [u8; 80]
     ensures { result ≡ builder_bytes builder.now }
 {

@@ -1,16 +1,12 @@
 -- Texts printed into a lent buffer, one after another, and what the buffer then holds. Assumes nothing.
 use mathlib.Core.Path.{◌≡◌, refl, sym, ◌∙◌, ap}
-use mathlib.Core.List.{List, [], ◌∷◌, ◌++◌, append_assoc, append-nil}
-use Prim.Native.Nat.{ℕ, suc, ◌+◌, ◌≤◌, min}
-use native.Mathlib.Nat.{min-eq_left}
+use mathlib.Core.List.{List, [], ◌++◌, append_assoc, append-nil}
+use Prim.Native.Nat.{ℕ, ◌≤◌}
 use native.Mathlib.Omega.{arith}
-use borrow.Author.Tests.{leb-true, leb-false}
-use lib.Dec.{leb}
-use lib.ListN.{length, take, length-append}
-use lib.Seq.{sets, set_out, length-sets}
-use Rattle.words.proofs.Cases.{test}
+use lib.ListN.{length, take}
+use lib.Seq.{sets, length-sets}
 use Rattle.lent_bytes.specs.Buffer.{written}
-use Rattle.lent_bytes.proofs.Buffer.{sets_append, fits_written, written_front}
+use Rattle.lent_bytes.proofs.Buffer.{fits_written, written_front}
 use Rattle.lent_text.specs.declared.Printer.{Printer}
 use Rattle.lent_text.specs.Printed.{Put, Printed, last_place}
 use Rattle.lent_text.proofs.Put.{put_then}

@@ -7,20 +7,31 @@ ghost use Rattle.lent_bytes.specs.Bytes.{four_bytes};
 ghost use Rattle.lent_text.specs.Text.{decimal};
 ghost use Rattle.lent_text.specs.Printed.{Put};
 
-// Each method of a printer goes through a function of the buffer and the place, which stay in registers there:
-// a buffer behind a printer is looked up again at each byte.
+use lent_bytes::write_at;
+
+// The methods of a printer are inlined and go through functions of the buffer and the place, so that both stay
+// in registers: a buffer behind a printer is looked up again at each byte.
 fn put_byte(out: &mut [u8], at: usize, byte: u8) -> usize
     ensures { Put out.old at (byte ∷ []) out.new result }
 {
     if at < out.len() {
         out[at] = byte;
+        at + 1
+    } else {
+        at.saturating_add(1)
     }
-    at.saturating_add(1)
 }
 
+// Bytes that all fit are copied in one go, and past the buffer's end there is nothing but to count.
 fn put_bytes(out: &mut [u8], at: usize, bytes: &[u8]) -> usize
     ensures { Put out.old at bytes.now out.new result }
 {
+    if write_at(out, at, bytes) {
+        return at + bytes.len();
+    }
+    if out.len() <= at {
+        return at.saturating_add(bytes.len());
+    }
     let mut place = at;
     for byte in bytes {
         place = put_byte(out, place, *byte);
@@ -48,26 +59,34 @@ pub struct Printer<'a> {
 impl<'a> Printer<'a> {
     ghost use Rattle.lent_text.specs.Printed.{Printed};
 
+    #[inline(always)]
     pub fn byte(&mut self, byte: u8)
         ensures { Printed self.old self.new (byte ∷ []) }
     {
         self.at = put_byte(self.out, self.at, byte);
     }
 
+    #[inline(always)]
     pub fn bytes(&mut self, bytes: &[u8])
         ensures { Printed self.old self.new bytes.now }
     {
         self.at = put_bytes(self.out, self.at, bytes);
     }
 
-    // A number in decimal.
+    // A number in decimal. One digit needs no call.
+    #[inline(always)]
     pub fn decimal(&mut self, n: u64)
         ensures { Printed self.old self.new (decimal n) }
     {
-        self.at = put_decimal(self.out, self.at, n);
+        if n <= 9 {
+            self.byte(b'0' + n as u8);
+        } else {
+            self.at = put_decimal(self.out, self.at, n);
+        }
     }
 
     // A number in four bytes, the low byte first. `four_at` (lent_bytes) reads it.
+    #[inline(always)]
     pub fn four(&mut self, n: u32)
         ensures { Printed self.old self.new (four_bytes n) }
     {
@@ -75,6 +94,7 @@ impl<'a> Printer<'a> {
     }
 
     // The four low bytes of a longer number.
+    #[inline(always)]
     pub fn low_four(&mut self, n: u64)
         ensures { Printed self.old self.new (four_bytes n) }
     {

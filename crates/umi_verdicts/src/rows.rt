@@ -8,10 +8,29 @@ ghost use Rattle.umi_verdicts.specs.Likeness.{like_row};
 use umi_column::is_dna_base;
 use umi_rows::Family;
 
+// Whether a byte is 128 or more. The one way out lets it go by sixteen bytes.
+fn high_among(bytes: &[u8]) -> bool
+    ensures { result ≡ list_any is_high bytes.now }
+{
+    let mut high = false;
+    for byte in bytes {
+        high = high | (128 <= *byte);
+    }
+    high
+}
+
+// The same, 64 bytes at a time, so that a long string is left soon.
 pub(crate) fn high_in(bytes: &[u8]) -> bool
     ensures { result ≡ list_any is_high bytes.now }
 {
-    bytes.iter().any(|byte| 128 <= *byte)
+    let mut rest = bytes;
+    while let Some((block, after)) = rest.split_first_chunk::<64>() {
+        if high_among(block) {
+            return true;
+        }
+        rest = after;
+    }
+    high_among(rest)
 }
 
 // Whether a string has a byte of 128 or more.
